@@ -1,4 +1,14 @@
 //! What adders say, added up block by block: the running sum.
+//!
+//! A running sum is as long as all bits that wait, so a step for each adder would take time in the square of the inputs. Instead a
+//! block of up to 2^16 adders is one `pol` line, in which their constraints are added as a balanced tree: a term is added at most 16
+//! times before the running sum is touched, so n inputs take about n log n. A block's line has up to 11 MB, far below the 2^28 bytes
+//! of the limit, and a tree of height 16 needs 18 entries of the stack. A block may go on past the end of a level, since each adder
+//! is taken as often as its own level says.
+//!
+//! Each running sum is deleted once the next is there, and the last once the comparator's clauses are put out. So there is never more
+//! than one, besides the constraint. What a sum says is stated by its value under all assignments: no list of its terms is ever
+//! written, and inputs that cancel need no word.
 ghost use Rattle.std.specs.Prelude.{◌≡◌, ◌≤◌, ◌<◌, ◌+◌, ◌*◌, ◌^◌, ◌∷◌, ◌++◌, [], All, length, IfOk, cond, pos};
 ghost use Rattle.pb_derive.specs.Deletions.{deletion_steps};
 ghost use Rattle.pb_steps.specs.declared.step.Step.TheVariants.{Pol};

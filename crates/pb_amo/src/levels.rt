@@ -1,4 +1,14 @@
 //! The steps of a grid, and of the grids inside it.
+//!
+//! The forward constraints of the lines and the literals' own constraint add up to that at most one line is chosen, exactly and by
+//! one step. The grid of the lines is derived from that sum as the outer grid is from its constraint. The sum is deleted after the
+//! clauses of the lines are put out, the reifications at the end of each grid. So what is live at any time is what the grids around
+//! need. A row and a column are one definition, over the function that gives the line of a literal.
+//!
+//! The recursion is that of the definition, two functions that call each other: one derives a grid, the other one of its sides
+//! (`side_steps`), from the sum of the side's lines to the deletion of that sum. The rows' sum has an id that is known beforehand;
+//! the columns' is read from the sink, since it depends on how many ids the rows' grid took. What has to be small is the greatest
+//! number of steps (`most_steps`), of which each inner grid has fewer.
 ghost use Rattle.std.specs.Prelude.{◌≤◌, ◌<◌, ◌+◌, ◌*◌, ◌^◌};
 ghost use Rattle.pb_family.specs.StepSinks.{HandsFrom};
 ghost use Rattle.pb_amo.specs.Product.{line, product_fresh};

@@ -25,9 +25,13 @@ impl<'a> Pairwise<'a> {
     pub fn over(of: &'a AtMost) -> Self
         requires at_most_one { of.now.bound ≡ 1 }
         requires units { all_weigh 1 of.now.terms ≡ true }
+        // The family is of this sum.
         ensures constraint { ⟦<Self as Family>⟧.constraint result ≡ of.now }
+        // It has no fresh variable.
         ensures fresh { ⟦<Self as Family>⟧.fresh_count result ≡ 0 }
+        // It has a clause for each two literals.
         ensures clauses { ⟦<Self as Family>⟧.clause_count result ≡ pair_count (length of.now.terms) }
+        // Its clauses are those of the pairwise encoding.
         ensures list { (first : ℕ) → ⟦<Self as Family>⟧.clause_list result first ≡ pairwise_clauses (lits_of of.now.terms) }
     {
         Pairwise { sum: One::over(of) }

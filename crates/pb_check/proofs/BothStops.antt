@@ -102,7 +102,6 @@ stops_both_weaker X Y f cnf proof cnf' proof' a b T U h stops = by_fault f stops
       of_one = stops.of_one;
       of_two = stops.of_two;
       fails = stops.fails;
-      ends = stops.ends;
       told = weaker_told a (λ t. (x : X) → AreOpen (CouldStand cnf.ahead proof.ahead (take stops.of_one (t.left cnf.slot)) (take stops.of_two (t.left proof.slot))) (T x))
           (λ t. (y : Y) → AreOpen (CouldStand cnf.ahead proof.ahead (take stops.of_one (t.left cnf.slot)) (take stops.of_two (t.left proof.slot))) (U y))
           (λ t is y. let by = h y in open_said (CouldStand cnf.ahead proof.ahead (take stops.of_one (t.left cnf.slot)) (take stops.of_two (t.left proof.slot))) (T by.0) (U y) by.1 (is by.0)) stops.told;

@@ -4,6 +4,7 @@ use Rattle.std.specs.Prelude.{◌≢◌, if◌then◌else◌, IfSome}
 use Rattle.std.proofs.lemmas.List.{append-nil, append_assoc}
 use Rattle.pb_base.specs.declared.literal.Lit.{Lit}
 use Rattle.pb_desk.specs.Desk.{DeskState}
+use Rattle.pb_desk.specs.LineReading.{Knows}
 use Rattle.pb_dimacs.specs.declared.head.CnfHead.{CnfHead}
 use Rattle.pb_dimacs.specs.CnfReaders.{CnfReader, symbols_left}
 use Rattle.pb_dimacs.specs.CnfSymbols.{CnfSymbol, Next, next_of}
@@ -100,5 +101,5 @@ left_keeps d next ls r r' a b is given k =
     (subst (λ (o : Option (List Lit)). GivesNext o r.vars r.left r.lines r.at r'.lines r'.at a b) is given)
 
 -- a step that looks at no clause
-pub rule_keeps : (t : Taken) (k : CollectedClauses) (r : CnfReader) (a : DeskState) → t ≢ taken.Last → KeepsNext t k r k r a a
-rule_keeps t k r a not_last = by_taken t k k r r a a not_last (reads_begin r.lines.slot r.lines.ahead a (Keeps taken.On k r k r) (λ text. (refl, λ all tells. tells)))
+pub rule_keeps : (t : Taken) (k : CollectedClauses) (r : CnfReader) (a : DeskState) → Knows r.lines.slot r.lines.ahead a → t ≢ taken.Last → KeepsNext t k r k r a a
+rule_keeps t k r a knows not_last = by_taken t k k r r a a not_last (reads_begin r.lines.slot r.lines.ahead a (Keeps taken.On k r k r) knows (λ text. (refl, λ all tells. tells)))

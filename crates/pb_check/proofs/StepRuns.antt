@@ -3,7 +3,7 @@ use Rattle.std.proofs.Common.{◌≡◌, ℕ, List, Some, None, Ok, Err, refl, s
 use Rattle.std.specs.Prelude.{◌≢◌, Result, IfErr, IfOk}
 use Rattle.pb_base.specs.declared.expected.Expected.TheVariants.{StepWord}
 use Rattle.pb_desk.specs.Desk.{DeskState}
-use Rattle.pb_desk.specs.LineReading.{TakesAhead}
+use Rattle.pb_desk.specs.LineReading.{Knows, TakesAhead}
 use Rattle.pb_desk.specs.LineReaders.{Reader}
 use Rattle.pb_dimacs.specs.CnfReaders.{CnfReader}
 use Rattle.pb_dimacs.specs.CnfSymbols.{Next}
@@ -92,11 +92,11 @@ abbrev pub StepComes : (cnf : CnfReader) → Database → Reader → Step → On
 StepComes cnf db proof s x text answer = FollowsRows x.task proof.number (turn_by x.task (at_steps db) (clauses_of cnf text) proof.number proof.line s) (rows_left x.proof x.text) answer
 
 -- no step stands there
-pub misplaced_step : (s t : Step) (f : CheckFault) (cnf : CnfReader) (db : Database) (proof : Reader) (a : DeskState) → s ≡ t → f ≡ misplaced_line proof.number proof.line StepWord
+pub misplaced_step : (s t : Step) (f : CheckFault) (cnf : CnfReader) (db : Database) (proof : Reader) (a : DeskState) → Knows cnf.lines.slot cnf.lines.ahead a → s ≡ t → f ≡ misplaced_line proof.number proof.line StepWord
     → ((x : OnLine cnf) (text : List ℕ) → StepComes cnf db proof t x text (Err (misplaced_line proof.number proof.line StepWord))) → StopsOne (OnLine cnf) f cnf.lines cnf.lines a a (StepComes cnf db proof s)
-misplaced_step s t f cnf db proof a says is comes =
+misplaced_step s t f cnf db proof a knows says is comes =
     subst (λ (f : CheckFault). StopsOne (OnLine cnf) f cnf.lines cnf.lines a a (StepComes cnf db proof s)) (sym is)
-    (reads_begin cnf.lines.slot cnf.lines.ahead a (λ text rest. (x : OnLine cnf) → StepComes cnf db proof s x text (Err (misplaced_line proof.number proof.line StepWord)))
+    (reads_begin cnf.lines.slot cnf.lines.ahead a (λ text rest. (x : OnLine cnf) → StepComes cnf db proof s x text (Err (misplaced_line proof.number proof.line StepWord))) knows
     (λ text x. subst (λ (u : Step). StepComes cnf db proof u x text (Err (misplaced_line proof.number proof.line StepWord))) (sym says) (comes x text)))
 
 -- the same line by its number

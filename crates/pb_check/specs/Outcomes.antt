@@ -15,7 +15,7 @@ LeavesOpen p cnf proof = (answer : Answer) → ((behind other : List ℕ) → Wa
 
 -- why there is no verdict: a read failed, where what was taken of both texts left the answer open; memory was wanting; or this fault is the answer for the texts
 abbrev pub StopsCheck : Problem → ℕ → ℕ → DeskState → DeskState → CheckFault → Type 0
-StopsCheck p cnf proof old new ReadFault = FailsBoth cnf proof 2 (LeavesOpen p) old new
+StopsCheck p cnf proof old new ReadFault = FailsBoth cnf proof (LeavesOpen p) old new
 StopsCheck p cnf proof old new NoMemory = TakesBoth cnf proof (λ c d. Unit {0}) old new
 StopsCheck p cnf proof old new (Refused file place e) = TakesBoth cnf proof (λ c d. Walk p c d (Err (Refused file place e))) old new
 StopsCheck p cnf proof old new (Limit file place which) = TakesBoth cnf proof (λ c d. Walk p c d (Err (Limit file place which))) old new

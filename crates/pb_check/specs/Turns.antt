@@ -1,4 +1,7 @@
 -- What a line of a derivation asks, before any rule is tested (our own).
+-- `turn_of` computes it of a line and of what is to come, with no rule in it, so that the answers for texts without allowed steps
+-- compute. `Follows` is the one place that names `Allowed` and `FirstDenied`. So a reader sees the order of faults and denials
+-- without any rule, and each law goes by turns.
 use Rattle.std.specs.Prelude.{ℕ, ◌-◌, ◌==◌, List, length, Option, Some, None, Result, Ok, Err, if◌then◌else◌}
 use Rattle.pb_base.specs.declared.literal.Lit.{Lit}
 use Rattle.pb_base.specs.declared.file.File.TheVariants.{Proof}

@@ -1,8 +1,8 @@
 //! Checking a derivation.
-ghost use Rattle.std.specs.Prelude.{◌≡◌, ◌≢◌, ◌<◌, ◌^◌, [], length, true, IsTrue, Ok, Err, None, IfOk, IfErr, All};
+ghost use Rattle.std.specs.Prelude.{◌≡◌, ◌≢◌, ◌<◌, ◌^◌, [], length, true, false, IsTrue, Ok, Err, None, IfOk, IfErr, All};
 ghost use Rattle.pb_base.specs.Problems.{IsWithinLimits};
 ghost use Rattle.pb_desk.specs.Desk.{IfTold, IsSteady};
-ghost use Rattle.pb_desk.specs.TwoSlots.{TakesBoth};
+ghost use Rattle.pb_desk.specs.TwoSlots.{KnowsBoth, TakesBoth};
 ghost use Rattle.pb_norm.specs.Constraints.{AreVarsWithin};
 ghost use Rattle.pb_norm.specs.Products.{loaded_of};
 ghost use Rattle.pb_dimacs.specs.CnfRows.{cnf_limits};
@@ -40,6 +40,7 @@ fn check_lines<D: Desk>(
     loaded: u64,
 ) -> Result<Verdict, CheckFault>
     requires open { IsTrue ((D.state desk.old).view.reading session.old.lines.slot) }
+    requires knows { KnowsBoth session.old.cnf.lines session.old.lines (D.state desk.old) }
     requires fine { session.old.lines.fault ≡ None }
     requires limits { session.old.lines.limits ≡ cnf_limits }
     requires cnf_open { IsTrue ((D.state desk.old).view.reading session.old.cnf.lines.slot) }
@@ -83,6 +84,7 @@ fn check_over<D: Desk>(
     requires within { AreVarsWithin vars loaded.now }
     requires narrow { All IsNarrow loaded.now }
     requires open { IsTrue ((D.state desk.old).view.reading session.old.lines.slot) }
+    requires knows { KnowsBoth session.old.cnf.lines session.old.lines (D.state desk.old) }
     requires fine { session.old.lines.fault ≡ None }
     requires limits { session.old.lines.limits ≡ cnf_limits }
     requires cnf_open { IsTrue ((D.state desk.old).view.reading session.old.cnf.lines.slot) }
@@ -115,6 +117,7 @@ fn check_texts<D: Desk>(
     requires new { IsNew session.old }
     requires cnf_open { IsTrue ((D.state desk.old).view.reading session.old.cnf.lines.slot) }
     requires open { IsTrue ((D.state desk.old).view.reading session.old.lines.slot) }
+    requires knows { KnowsBoth session.old.cnf.lines session.old.lines (D.state desk.old) }
     ensures verdict { IfOk result (λ r. TakesBoth session.old.cnf.lines.slot session.old.lines.slot (λ c d. Walk problem.now c d (Ok r.0)) (D.state desk.old) (D.state desk.new)) }
     ensures few_vars { IfOk result (λ r. r.1 < 2 ^ 31) }
     ensures vars { IfOk result (λ r. IfTold (D.state desk.old) (λ t. HasVars (t.left session.old.cnf.lines.slot) r.1)) }
@@ -153,11 +156,13 @@ fn check_by<D: Desk>(
     kept: CollectedClauses,
 ) -> Result<(Verdict, u32, Clauses), CheckFault>
     requires within { IsWithinLimits problem.now }
-    requires cnf_kind { cnf < 4 }
-    requires proof_kind { proof < 4 }
+    requires cnf_kind { cnf < 5 }
+    requires proof_kind { proof < 5 }
     requires apart { cnf ≢ proof }
     requires cnf_open { IsTrue ((D.state desk.old).view.reading cnf) }
     requires proof_open { IsTrue ((D.state desk.old).view.reading proof) }
+    requires cnf_begun { (D.state desk.old).ended cnf ≡ false }
+    requires proof_begun { (D.state desk.old).ended proof ≡ false }
     requires nothing { kept.clauses ≡ [] }
     ensures verdict { IfOk result (λ r. TakesBoth cnf proof (λ c d. Walk problem.now c d (Ok r.0)) (D.state desk.old) (D.state desk.new)) }
     ensures few_vars { IfOk result (λ r. r.1 < 2 ^ 31) }
@@ -197,14 +202,21 @@ pub fn check<D: Desk>(
     proof: u8,
 ) -> Result<Verdict, CheckFault>
     requires within { IsWithinLimits problem.now }
-    requires cnf_kind { cnf < 4 }
-    requires proof_kind { proof < 4 }
+    requires cnf_kind { cnf < 5 }
+    requires proof_kind { proof < 5 }
     requires apart { cnf ≢ proof }
     requires cnf_open { IsTrue ((D.state desk.old).view.reading cnf) }
     requires proof_open { IsTrue ((D.state desk.old).view.reading proof) }
+    requires cnf_begun { (D.state desk.old).ended cnf ≡ false }
+    requires proof_begun { (D.state desk.old).ended proof ≡ false }
+    // On a visible desk a verdict is the answer for the rest of the two texts.
     ensures verdict { IfOk result (λ v. TakesBoth cnf proof (λ c d. Walk problem.now c d (Ok v)) (D.state desk.old) (D.state desk.new)) }
+    // On a visible desk a fault with a place is the answer for the two texts. A failed read is answered only if the count of failed reads
+    // rose and what was read leaves the answer open.
     ensures stopped { IfErr result (StopsCheck problem.now cnf proof (D.state desk.old) (D.state desk.new)) }
+    // A refusal names one of the two texts, on every desk.
     ensures named { IfErr result NamesText }
+    // On a steady desk no read fails.
     ensures steady { IsSteady (D.state desk.old) → result ≢ Err CheckFault.ReadFault }
 {
     let kept = CollectedClauses::nothing(alloc);
@@ -224,16 +236,26 @@ pub fn check_kept<D: Desk>(
     proof: u8,
 ) -> Result<(Verdict, u32, Clauses), CheckFault>
     requires within { IsWithinLimits problem.now }
-    requires cnf_kind { cnf < 4 }
-    requires proof_kind { proof < 4 }
+    requires cnf_kind { cnf < 5 }
+    requires proof_kind { proof < 5 }
     requires apart { cnf ≢ proof }
     requires cnf_open { IsTrue ((D.state desk.old).view.reading cnf) }
     requires proof_open { IsTrue ((D.state desk.old).view.reading proof) }
+    requires cnf_begun { (D.state desk.old).ended cnf ≡ false }
+    requires proof_begun { (D.state desk.old).ended proof ≡ false }
+    // On a visible desk the verdict is the one that `check` gives.
     ensures verdict { IfOk result (λ r. TakesBoth cnf proof (λ c d. Walk problem.now c d (Ok r.0)) (D.state desk.old) (D.state desk.new)) }
+    // The number of variables is below 2^31.
     ensures few_vars { IfOk result (λ r. r.1 < 2 ^ 31) }
+    // On a visible desk, if the derivation is accepted, the clauses are exactly those of the CNF text, in order, with the number of
+    // variables of its p line; if it is rejected there are none.
     ensures kept { IfOk result (λ r. IfTold (D.state desk.old) (λ t. IsKept r.0 (t.left cnf) r.1 r.2)) }
+    // On a visible desk a fault with a place is the answer for the two texts. A failed read is answered only if the count of failed reads
+    // rose and what was read leaves the answer open.
     ensures stopped { IfErr result (StopsCheck problem.now cnf proof (D.state desk.old) (D.state desk.new)) }
+    // A refusal names one of the two texts, on every desk.
     ensures named { IfErr result NamesText }
+    // On a steady desk no read fails.
     ensures steady { IsSteady (D.state desk.old) → result ≢ Err CheckFault.ReadFault }
 {
     let kept = CollectedClauses::all(alloc);

@@ -1,6 +1,7 @@
 //! The next line of a derivation that says something.
 ghost use Rattle.std.specs.Prelude.{◌≡◌, ◌≢◌, ◌≤◌, ◌<◌, ◌^◌, false, IsTrue, Ok, Err, Some, None, IfOk, IfErr, OnOk, IfSome};
 ghost use Rattle.pb_desk.specs.Desk.{IsSteady};
+ghost use Rattle.pb_desk.specs.LineReading.{Knows};
 ghost use Rattle.pb_dimacs.specs.CnfRows.{cnf_limits};
 ghost use Rattle.pb_dimacs.specs.Cursors.{GoesOn};
 ghost use Rattle.pb_steps.specs.Steps.{IsSpelled};
@@ -31,6 +32,7 @@ pub fn next_step<D: Desk>(
     lines: &mut LineReader,
 ) -> Result<Option<Step>, CheckFault>
     requires open { IsTrue ((D.state desk.old).view.reading lines.old.slot) }
+    requires knows { Knows lines.old.slot lines.old.ahead (D.state desk.old) }
     requires fine { lines.old.fault ≡ None }
     requires limits { lines.old.limits ≡ cnf_limits }
     ensures follows { OnOk result (GoesOn lines.old lines.new) }
@@ -70,6 +72,7 @@ pub fn due_step<D: Desk>(
     lines: &mut LineReader,
 ) -> Result<Step, CheckFault>
     requires open { IsTrue ((D.state desk.old).view.reading lines.old.slot) }
+    requires knows { Knows lines.old.slot lines.old.ahead (D.state desk.old) }
     requires fine { lines.old.fault ≡ None }
     requires limits { lines.old.limits ≡ cnf_limits }
     ensures follows { OnOk result (GoesOn lines.old lines.new) }

@@ -1,6 +1,12 @@
 //! The lines of a derivation by their places.
+//!
+//! The database is that of the loaded constraints over the variables of the CNF's p line, and no line before the steps can change it.
+//! So it is made before the first line, and no state says what is to come: there is a function for each position, one loop over lines
+//! without content, and one over steps.
 ghost use Rattle.std.specs.Prelude.{◌≡◌, ◌≢◌, ◌≤◌, ◌<◌, ◌^◌, IsTrue, Ok, Err, None, IfOk, IfErr, OnOk};
 ghost use Rattle.pb_desk.specs.Desk.{IsSteady};
+ghost use Rattle.pb_desk.specs.LineReading.{Knows};
+ghost use Rattle.pb_desk.specs.TwoSlots.{KnowsBoth};
 ghost use Rattle.pb_dimacs.specs.CnfRows.{cnf_limits};
 ghost use Rattle.pb_dimacs.specs.Cursors.{GoesOn};
 ghost use Rattle.pb_check.specs.Turns.Stage.{head_wanted, ended};
@@ -26,6 +32,7 @@ pub fn take_head<D: Desk>(
     lines: &mut LineReader,
 ) -> Result<(), CheckFault>
     requires open { IsTrue ((D.state desk.old).view.reading lines.old.slot) }
+    requires knows { Knows lines.old.slot lines.old.ahead (D.state desk.old) }
     requires fine { lines.old.fault ≡ None }
     requires limits { lines.old.limits ≡ cnf_limits }
     ensures follows { OnOk result (GoesOn lines.old lines.new) }
@@ -53,6 +60,7 @@ pub fn take_count<D: Desk>(
     loaded: u64,
 ) -> Result<(), CheckFault>
     requires open { IsTrue ((D.state desk.old).view.reading lines.old.slot) }
+    requires knows { Knows lines.old.slot lines.old.ahead (D.state desk.old) }
     requires fine { lines.old.fault ≡ None }
     requires limits { lines.old.limits ≡ cnf_limits }
     ensures follows { OnOk result (GoesOn lines.old lines.new) }
@@ -86,6 +94,7 @@ fn take_line<D: Desk>(
     db: &mut Database,
 ) -> Result<Taken, CheckFault>
     requires open { IsTrue ((D.state desk.old).view.reading session.old.lines.slot) }
+    requires knows { KnowsBoth session.old.cnf.lines session.old.lines (D.state desk.old) }
     requires fine { session.old.lines.fault ≡ None }
     requires limits { session.old.lines.limits ≡ cnf_limits }
     requires cnf_open { IsTrue ((D.state desk.old).view.reading session.old.cnf.lines.slot) }
@@ -123,6 +132,7 @@ pub fn run_steps<D: Desk>(
     db: &mut Database,
 ) -> Result<Option<Verdict>, CheckFault>
     requires open { IsTrue ((D.state desk.old).view.reading session.old.lines.slot) }
+    requires knows { KnowsBoth session.old.cnf.lines session.old.lines (D.state desk.old) }
     requires fine { session.old.lines.fault ≡ None }
     requires limits { session.old.lines.limits ≡ cnf_limits }
     requires cnf_open { IsTrue ((D.state desk.old).view.reading session.old.cnf.lines.slot) }
@@ -156,6 +166,7 @@ pub fn take_rest<D: Desk>(
     lines: &mut LineReader,
 ) -> Result<(), CheckFault>
     requires open { IsTrue ((D.state desk.old).view.reading lines.old.slot) }
+    requires knows { Knows lines.old.slot lines.old.ahead (D.state desk.old) }
     requires fine { lines.old.fault ≡ None }
     requires limits { lines.old.limits ≡ cnf_limits }
     ensures slot { lines.new.slot ≡ lines.old.slot }

@@ -2,6 +2,7 @@
 ghost use Rattle.std.specs.Prelude.{◌≡◌, ◌≢◌, ◌≤◌, IsTrue, Ok, Err, None, IfOk, IfErr, OnOk};
 ghost use Rattle.std.specs.Option.{option_copied};
 ghost use Rattle.pb_desk.specs.Desk.{IsSteady};
+ghost use Rattle.pb_desk.specs.LineReading.{Knows};
 ghost use Rattle.pb_steps.specs.Steps.{IsRule, IsSpelled};
 ghost use Rattle.pb_check.specs.Outcomes.{NamesText};
 ghost use Rattle.pb_check.specs.inner.Calls.{PutsOut, StopsOut, EndsSteps, StopsEnd, TakesStep, StopsStep};
@@ -53,6 +54,7 @@ fn put_out<D: Desk>(
     id: u64,
 ) -> Result<Taken, CheckFault>
     requires open { IsTrue ((D.state desk.old).view.reading cnf.old.lines.slot) }
+    requires knows { Knows cnf.old.lines.slot cnf.old.lines.ahead (D.state desk.old) }
     requires fine { cnf.old.fault ≡ None }
     requires spelled { 1 ≤ id }
     ensures fine { OnOk result (cnf.new.fault ≡ None) }
@@ -81,6 +83,7 @@ fn put_out<D: Desk>(
 // No clause may be left.
 fn end_steps<D: Desk>(desk: &mut D, cnf: &mut ClauseReader) -> Result<Taken, CheckFault>
     requires open { IsTrue ((D.state desk.old).view.reading cnf.old.lines.slot) }
+    requires knows { Knows cnf.old.lines.slot cnf.old.lines.ahead (D.state desk.old) }
     requires fine { cnf.old.fault ≡ None }
     ensures fine { OnOk result (cnf.new.fault ≡ None) }
     ensures vars { cnf.new.vars ≡ cnf.old.vars }
@@ -108,6 +111,7 @@ pub fn take_step<D: Desk>(
     step: &Step,
 ) -> Result<Taken, CheckFault>
     requires open { IsTrue ((D.state desk.old).view.reading cnf.old.lines.slot) }
+    requires knows { Knows cnf.old.lines.slot cnf.old.lines.ahead (D.state desk.old) }
     requires fine { cnf.old.fault ≡ None }
     requires spelled { IsSpelled step.now }
     ensures fine { OnOk result (cnf.new.fault ≡ None) }

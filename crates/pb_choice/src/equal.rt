@@ -33,7 +33,9 @@ impl EqualPlan<'_> {
 
     /// How many fresh variables and clauses the encoding has.
     pub fn counts(&self) -> Counts
+        // The number of fresh variables is the plan's.
         ensures fresh { result.fresh ≡ planned_fresh self.now }
+        // The number of clauses is the plan's.
         ensures clauses { result.clauses ≡ planned_count self.now }
     {
         match self {
@@ -50,6 +52,7 @@ impl EqualPlan<'_> {
         requires original { IsPlannedBelow first self.now }
         requires low { 1 ≤ first }
         requires fits { first + planned_fresh self.now ≤ 2 ^ 31 }
+        // Exactly the plan's clauses were emitted, in order, or a first part of their text until the sink failed or memory ran out.
         ensures { HandsIfMemory (planned_clauses self.now first) result (S.state sink.old) (S.state sink.new) }
     {
         match self {
@@ -76,6 +79,8 @@ impl EqualPlan<'_> {
         requires high_given { 1 ≤ high }
         requires high_known { high < (T.state sink.old).next }
         requires few { (T.state sink.old).next ≤ 2 ^ 60 }
+        // Exactly the steps that derive the clauses from the two halves were emitted, or the first ones until the sink failed or memory
+        // ran out.
         ensures { HandsFrom (planned_steps self.now first low high) result (T.state sink.old) (T.state sink.new) }
     {
         let ids = HalfIds { low, high };

@@ -95,7 +95,10 @@ pub fn plan_equal<'a>(
 ) -> Result<EqualPlan<'a>, NoMemory>
     requires lower_light { weight lower.now.terms < 2 ^ 100 }
     requires upper_light { weight upper.now.terms < 2 ^ 100 }
+    // The plan is one of both halves together iff the equality asks for a number of literals, equalities may be joined and its fresh
+    // variables are within the budget; else it is the plans of both halves.
     ensures choice { IfOk result (IsEqualPlan options.now lower.now upper.now) }
+    // Its numbers, clauses and steps are those of the equality.
     ensures parts { IfOk result (HasPartsOf options.now lower.now upper.now) }
 {
     match exact_of(alloc, lower, options)? {

@@ -38,6 +38,7 @@ impl Kept {
 impl Plan<'_> {
     /// The diagram that was built, if one was: it took a search, which whoever plans the constraint again need not make.
     pub fn into_kept(self) -> Option<Kept>
+        // A diagram that is given is the one that these options and this constraint have.
         ensures { IfSome result (IsKeptOf self.entry.options self.entry.constraint.now) }
     {
         match self.treatment() {
@@ -60,7 +61,9 @@ pub fn plan_kept<'a>(
 ) -> Result<Plan<'a>, NoMemory>
     requires light { weight constraint.now.terms < 2 ^ 100 }
     requires kept { IsKeptOf options.now constraint.now kept.now }
+    // The plan is of this constraint.
     ensures constraint { IfOk result (λ plan. plan.constraint.now ≡ constraint.now) }
+    // It is by these options.
     ensures options { IfOk result (λ plan. plan.options ≡ options.now) }
 {
     plan_by(alloc, constraint, options, Known::Kept(&kept.chosen))

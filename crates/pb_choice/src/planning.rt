@@ -1,4 +1,6 @@
 //! Planning an encoding.
+//!
+//! A plan and the families of at most one borrow what they encode; families that build something own it.
 ghost use Rattle.std.specs.Prelude.{◌≡◌, ◌<◌, ◌^◌, IfOk};
 ghost use Rattle.pb_norm.specs.Constraints.{weight};
 ghost use Rattle.pb_norm.specs.Classes.{RestIs};
@@ -65,7 +67,9 @@ pub fn plan<'a>(
     options: &Options,
 ) -> Result<Plan<'a>, NoMemory>
     requires light { weight constraint.now.terms < 2 ^ 100 }
+    // The plan is of this constraint.
     ensures constraint { IfOk result (λ plan. plan.constraint.now ≡ constraint.now) }
+    // It is by these options.
     ensures options { IfOk result (λ plan. plan.options ≡ options.now) }
 {
     plan_by(alloc, constraint, options, Known::Nothing)
@@ -80,7 +84,9 @@ pub fn plan_adder<'a>(
 ) -> Result<Plan<'a>, NoMemory>
     requires light { weight constraint.now.terms < 2 ^ 100 }
     requires adder { IsSentToAdder options.now constraint.now }
+    // The plan is of this constraint.
     ensures constraint { IfOk result (λ plan. plan.constraint.now ≡ constraint.now) }
+    // It is by these options.
     ensures options { IfOk result (λ plan. plan.options ≡ options.now) }
 {
     plan_by(alloc, constraint, options, Known::Adder)

@@ -1,4 +1,7 @@
 //! How one constraint is encoded.
+//!
+//! A plan keeps its sum together with what was built of it. The sum was there while the family was built, so the most memory held
+//! stays the same, and what a plan promises is said over the sum and the treatment alone, and names nothing inside a family.
 ghost use Rattle.std.specs.Prelude.{◌≡◌, ◌≤◌, ◌<◌, ◌+◌, ◌^◌, IfSome};
 ghost use Rattle.pb_norm.specs.Reduction.{rest_of, units_of};
 ghost use Rattle.pb_family.specs.Families.{VarsBelow};
@@ -54,7 +57,9 @@ impl Drop for Plan<'_> {
 impl Plan<'_> {
     /// How many fresh variables and clauses the encoding has.
     pub fn counts(&self) -> Counts
+        // The number of fresh variables is the defined one.
         ensures fresh { result.fresh ≡ constraint_fresh self.now.options self.now.constraint.now }
+        // The number of clauses is the defined one.
         ensures clauses { result.clauses ≡ constraint_count self.now.options self.now.constraint.now }
         ensures few_fresh { result.fresh < 2 ^ 63 }
         ensures few_clauses { result.clauses < 2 ^ 63 }
@@ -69,6 +74,8 @@ impl Plan<'_> {
 
     /// How what is left of the constraint is encoded.
     pub fn treatment(&self) -> Treatment
+        // The treatment is the defined one: by class, options and the budget, past which a cardinality or general constraint is sent to
+        // the adder.
         ensures { result ≡ treatment_of self.now.options (rest_of self.now.constraint.now) }
     {
         self.left.treatment()
@@ -92,6 +99,7 @@ impl Plan<'_> {
         requires original { VarsBelow first self.now.constraint.now.terms }
         requires low { 1 ≤ first }
         requires fits { first + constraint_fresh self.now.options self.now.constraint.now ≤ 2 ^ 31 }
+        // Exactly the constraint's clauses were emitted, in order, or a first part of their text until the sink failed or memory ran out.
         ensures { HandsIfMemory (constraint_clauses self.now.options self.now.constraint.now first) result (S.state sink.old) (S.state sink.new) }
     {
         emit_units(&self.units, sink)?;
@@ -113,6 +121,8 @@ impl Plan<'_> {
         requires given { 1 ≤ id }
         requires known { id < (T.state sink.old).next }
         requires few { (T.state sink.old).next + 2 ^ 31 ≤ 2 ^ 61 }
+        // Exactly the steps that derive the clauses from the constraint were emitted, or the first ones until the sink failed or memory
+        // ran out.
         ensures { HandsFrom (constraint_steps self.now.options self.now.constraint.now first id) result (T.state sink.old) (T.state sink.new) }
     {
         // Brings in that its terms are few.

@@ -1,4 +1,9 @@
-//! The step by which a constraint becomes what is left of it.
+//! The step by which a constraint becomes its residual sum.
+//!
+//! It is one `pol` line: the constraint, each unit weakened away, `s`, and `d` by the coefficient that all terms then have, or by 1.
+//! These are exactly the steps of the reduction, so the result is the core, and a family's derivation starts from its own sum. The
+//! line is written also if the constraint is its own core, so that ids depend on the class alone. Its constraint is deleted once the
+//! clauses are put out. Units and a clause follow from the constraint itself by propagation, and need no such line.
 ghost use Rattle.std.specs.Prelude.{◌≡◌, ◌<◌, ◌-◌, ◌^◌, ◌++◌, pos, IfOk, filter, map};
 ghost use Rattle.pb_norm.specs.Constraints.{weight, weights};
 ghost use Rattle.pb_norm.specs.Reduction.{all_weigh, first_coef, is_above};

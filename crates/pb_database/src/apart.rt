@@ -1,4 +1,9 @@
-//! Propagation where there are far more variables than occur, over those that do.
+//! Propagation if there are far more variables than occur, over those that do.
+//!
+//! Engines have tables over all variables, and their calls that do not allocate (`assume`, `propagate`, `Rounds::show`) need room for
+//! any of them beforehand. So a database of more than 2^22 variables, and of more than 256 for each loaded term, has engines over
+//! none. Each propagation is then over a list made for it of the constraints that it needs, whose variables are replaced by their
+//! ranks (`is_conflicting`); ranks ascend, so terms stay in normal form.
 ghost use Rattle.std.specs.Prelude.{◌≡◌, ◌++◌, ◌∷◌, [], IfOk, OnOk, filter_map};
 ghost use Rattle.std.specs.Option.{option_copied, option_to_list};
 ghost use Rattle.pb_database.specs.inner.Slots.{slot_of, listed_slots};

@@ -177,6 +177,7 @@ impl Database {
     ) -> Result<Database, NoMemory>
         requires within { AreVarsWithin vars loaded.now }
         requires narrow { All IsNarrow loaded.now }
+        // The loaded constraints are live under the ids 1, 2, ..
         ensures { IfOk result (λ db. db ≡ loaded_database original vars loaded.now) }
     {
         let slots = loaded_slots(alloc, loaded)?;
@@ -204,6 +205,7 @@ impl Database {
 
     /// The constraint with an id.
     pub fn constraint_at(&self, id: u64) -> Option<&Packed>
+        // The constraint is the live one with the id, if there is one.
         ensures found { option_copied result ≡ constraint_at self.now.live id }
         ensures sound { IsDatabase self.now }
     {
@@ -212,6 +214,7 @@ impl Database {
 
     /// Whether a constraint stands under an id.
     pub fn is_live(&self, id: u64) -> bool
+        // The answer is true iff a constraint is live under the id.
         ensures { result ≡ is_live self.now.live id }
     {
         self.constraint_at(id).is_some()
@@ -219,6 +222,7 @@ impl Database {
 
     /// Whether the constraint with an id was put out.
     pub fn is_out(&self, id: u64) -> bool
+        // The answer is true iff that constraint was put out.
         ensures { result ≡ is_out self.now.live id }
     {
         slots::is_out(&self.slots, id)
@@ -259,7 +263,9 @@ impl Database {
     pub fn refutes(&mut self, more: &Linear, second: Option<&Linear>) -> Result<bool, NoMemory>
         requires more { HasVarsWithin self.old.vars more.now.terms }
         requires second { IfSome (option_copied second) (λ c. HasVarsWithin self.old.vars c.terms) }
+        // The database is the same.
         ensures same { self.new ≡ self.old }
+        // The answer is true iff propagation over the given constraints and all live ones reaches a conflict.
         ensures answer { IfOk result (TellsConflict (more.now ∷ option_to_list (option_copied second.entry) ++ live_constraints self.old.live)) }
     {
         if self.most < self.vars {
@@ -281,7 +287,9 @@ impl Database {
     /// The same with one constraint, over those with the ids alone.
     pub fn refutes_listed(&mut self, more: &Linear, ids: &[u64]) -> Result<bool, NoMemory>
         requires { HasVarsWithin self.old.vars more.now.terms }
+        // The database is the same.
         ensures same { self.new ≡ self.old }
+        // The answer is true iff propagation over the given constraint and those with the ids reaches a conflict.
         ensures answer { IfOk result (TellsConflict (more.now ∷ filter_map (constraint_at self.old.live) ids.now)) }
     {
         if self.most < self.vars {
@@ -304,6 +312,7 @@ impl Database {
     /// Ids, among them those of all constraints that have the variable, which is a fresh one.
     pub fn ids_of(&self, var: Var) -> &[u32]
         requires { self.now.original < var }
+        // The ids include those of all live constraints that have the fresh variable.
         ensures { HasNaming self.now.live var result.now }
     {
         index::ids_of(&self.named, var)
@@ -313,8 +322,11 @@ impl Database {
     pub fn grow(&mut self, constraint: Linear) -> Result<u64, NoMemory>
         requires narrow { IsNarrow constraint }
         requires within { HasVarsWithin self.old.vars constraint.terms }
+        // The id is the next one.
         ensures id { IfOk result (λ id. id ≡ self.old.next) }
+        // On success the constraint is live under it.
         ensures ok { OnOk result (self.new ≡ grown self.old constraint) }
+        // After `NoMemory` the database is as it was.
         ensures err { OnErr result (self.new ≡ self.old) }
     {
         let id = self.slots.len() as u64 + 1;
@@ -355,6 +367,7 @@ impl Database {
 
     /// Takes the constraints with the ids away.
     pub fn remove(&mut self, ids: &[u64])
+        // The constraints with the ids are not live any more.
         ensures { self.new ≡ reduced self.old ids.now }
     {
         for id in ids {
@@ -365,6 +378,7 @@ impl Database {
 
     /// Marks the constraint with an id as put out.
     pub fn mark(&mut self, id: u64)
+        // The constraint with the id is marked as put out.
         ensures { self.new ≡ marked self.old id }
     {
         slots::mark(&mut self.slots, id);

@@ -1,4 +1,13 @@
-//! Constraints that come into an engine late, where propagation needs them there.
+//! Constraints that enter the engine late, when propagation needs them there.
+//!
+//! Most steps of a derivation are operations, or substitutions whose goals follow term by term. A constraint that is added and
+//! deleted between two propagations over all constraints never needs to be in the engine. So the engine has the constraints of the
+//! first ids, up to some id, and those after it enter, in the order of their ids, just before such a propagation.
+//!
+//! A constraint in the engine is stored there and by its id, since the engine gives none back. By its id it is small: a clause of two
+//! to four literals is one block with four bytes a literal, another constraint has eight bytes a term if its numbers take 32 bits,
+//! and else the form of `pb_norm`. An id whose constraint is deleted keeps two words. Places and listed ids take four bytes: past
+//! 2^32 - 1 the answer is `NoMemory`, which slots alone would bring at 64 GB.
 ghost use Rattle.std.specs.Prelude.{◌≡◌, ◌≤◌, ◌<◌, ◌+◌, ℕ, List, IfSome, IsNone, length, take};
 ghost use Rattle.std.specs.Bool.{OnTrue, OnFalse};
 ghost use Rattle.pb_norm.specs.Constraints.{HasVarsWithin};

@@ -1,4 +1,7 @@
-//! An engine for listed constraints, which is made when it is first needed: its tables have an entry for each variable.
+//! An engine for listed constraints, which is made when it is first needed: its tables take 18 bytes a variable.
+//!
+//! Reverse unit propagation from listed ids alone adds their constraints to it, and removes them again, the newest first, so that
+//! nothing of them remains in its index. The engine of all constraints is left alone.
 ghost use Rattle.std.specs.Prelude.{◌≡◌, ◌∷◌, [], IfOk};
 ghost use Rattle.pb_norm.specs.Constraints.{HasVarsWithin};
 ghost use Rattle.pb_unit.specs.States.{started};

@@ -1,5 +1,13 @@
-//! For each fresh variable, ids whose constraints have it, and perhaps others: a substitution sets no other variable, and most terms have another.
-//! There may be fewer lists than variables: then some share one.
+//! For each fresh variable, ids of the constraints that have it, and perhaps others.
+//!
+//! A substitution sets fresh variables alone. So the constraints that it changes are found here, put in order, each once; the first
+//! that is not implied is then the one with the least id. Original variables have no list, since most terms of a derivation have one.
+//!
+//! The only invariant is that each live constraint is listed for its fresh variables. The id of a deleted one is taken out if it is
+//! among the newest eight of a list. Others are passed over, and swept once they are more than all ids that were listed after the
+//! last sweep. `naming` reads one list for a fresh variable, and walks all live constraints for an original one.
+//!
+//! If a database has far more variables than terms, there are 2^18 lists, and variables share one by their remainder.
 ghost use Rattle.std.specs.Prelude.{◌≡◌, ◌<◌, ◌+◌, ◌%◌, ◌++◌, ◌∷◌, [], ℕ, All, Contains, IfOk, IfSome, OnOk, OnErr, length, filter, is_some, slice_index_or};
 ghost use Rattle.std.specs.Bool.{OnTrue};
 ghost use Rattle.pb_norm.specs.Constraints.{weights};

@@ -1,4 +1,4 @@
-//! The constraints that stand while a derivation is checked, by their ids, and what propagation over them refutes.
+//! The live constraints while a derivation is checked, by their ids, and what propagation over them refutes.
 #![tactic(auto)]
 
 mod apart;

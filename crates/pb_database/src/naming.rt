@@ -54,6 +54,7 @@ impl Database {
 
     /// The least id, from a number on, whose constraint has the variable, or None where none has it. Only fresh variables have lists of ids.
     pub fn naming(&self, var: Var, from: u64) -> Option<u64>
+        // The id is the least one, from the number on, whose constraint has the variable; there is none iff none has it.
         ensures { MatchOption result (IsUnnamed self.now var from) (IsFirstNaming self.now.live var from) }
     {
         if var.index() <= self.original() {

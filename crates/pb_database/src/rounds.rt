@@ -1,4 +1,8 @@
 //! Propagation over few listed constraints, in rounds.
+//!
+//! At most eight listed constraints are read and visited in turn, with no engine: each makes the literals true that it needs. A
+//! constraint with too little room is a conflict; a round that adds no literal is the end without one. If eight rounds bring neither,
+//! the engine of `idle` decides.
 ghost use Rattle.std.specs.Prelude.{◌≡◌, ◌∷◌, IfSome};
 ghost use Rattle.pb_norm.specs.Constraints.{AreVarsWithin, HasVarsWithin};
 ghost use Rattle.pb_database.specs.inner.Slots.{listed_slots};

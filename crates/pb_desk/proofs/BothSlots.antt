@@ -1,5 +1,5 @@
 -- Two texts of one desk, read side by side.
-use Rattle.std.proofs.Common.{◌≡◌, ◌≤◌, ◌+◌, arith, ℕ, Bool, true, false, List, [], ◌++◌, length, take, drop, refl, sym, ap, ◌∙◌, subst, T, append_assoc}
+use Rattle.std.proofs.Common.{◌≡◌, ◌≤◌, ◌+◌, ℕ, Bool, true, false, List, [], ◌++◌, length, take, drop, refl, sym, ap, ◌∙◌, subst, T, append_assoc}
 use Rattle.std.proofs.lemmas.Bool.{true≢false}
 use Rattle.std.proofs.lemmas.List.{drop-drop, take-append-drop}
 use mathlib.Core.Path.{fun_ext}
@@ -9,11 +9,11 @@ use Rattle.std.specs.declared.option.Option.{Option}
 use Rattle.std.specs.declared.option.Option.TheVariants.{Some, None}
 use Rattle.pb_desk.specs.View.{Told, View, put, taken}
 use Rattle.pb_desk.specs.Desk.{DeskState, Reads, FailsToRead, IfTold, same}
-use Rattle.pb_desk.specs.LineReading.{TakesAhead, FailsAhead, MayStand, before_end, beyond, may_end, nothing_held, Held}
+use Rattle.pb_desk.specs.LineReading.{TakesAhead, FailsAhead, Knows, MayStand, before_end, beyond, nothing_held, Held}
 use Rattle.pb_desk.specs.LineReaders.{Reader}
 use Rattle.pb_desk.proofs.Steps.{as_reads, begin, reads_by_then, then_fails_to_read}
 use Rattle.pb_desk.proofs.Readings.{put-same, taken-taken, both_told}
-use Rattle.pb_desk.proofs.ReadLemmas.{Tells, taken-none, take_twice, always_told, weaker_told}
+use Rattle.pb_desk.proofs.ReadLemmas.{Tells, taken-none, take_twice, always_told, weaker_told, knows_after}
 use Rattle.pb_desk.specs.TwoSlots.{both_taken, ReadsBoth, MissesBoth, CouldStand, FailsBoth, TakesBoth}
 use Rattle.std.proofs.Math.Dec.{eqb→eq}
 
@@ -50,6 +50,10 @@ taken-swap m n k l view apart = elim view.told as (λ (o : Option Told). taken n
         ap (λ (xs : List ℕ). put (put t.left m (drop k (t.left m))) n (drop l xs)) (put-differs t.left m n (drop k (t.left m)) (λ e. apart (sym e)))
         ∙ put-swap t.left m n (drop k (t.left m)) (drop l (t.left n)) apart
         ∙ ap (λ (xs : List ℕ). put (put t.left n (drop l (t.left n))) m (drop k xs)) (sym (put-differs t.left n m (drop l (t.left n)) apart))
+
+-- a read of another slot leaves what the desk knows of this one
+pub knows_beside : (slot other : ℕ) (x y held : Held) (a b : DeskState) (P : List ℕ → List ℕ → Type 0) → other ≢ slot → TakesAhead slot x y a b P → Knows other held a → Knows other held b
+knows_beside slot other x y held a b P apart reads knows = ap (λ (f : ℕ → Bool). f other) reads.ended ∙ (put-differs a.ended slot other y.over apart ∙ knows)
 
 -- bytes of both, twice
 both-both : (one two n m n' m' : ℕ) (view : View) → one ≢ two → both_taken one two n' m' (both_taken one two n m view) ≡ both_taken one two (n + n') (m + m') view
@@ -89,7 +93,7 @@ both_begin one two a P apart h = record {
   of_one = 0;
   of_two = 0;
   reached = as_reads (both_taken one.slot two.slot 0 0) a a (begin (both_taken one.slot two.slot 0 0) a (λ v. ap (taken two.slot 0) (taken-none one.slot v) ∙ taken-none two.slot v));
-  ends = omega arith;
+  knows = λ k. k;
   told = always_told a (λ t. BothTell one two one two 0 0 P (t.left one.slot) (t.left two.slot)) (λ t rest other may may'. h (before_end one.ahead rest) (before_end two.ahead other));
 }
 
@@ -105,7 +109,7 @@ both_of_one one one' two a b P Q apart slot gives reads = record {
   of_one = reads.count;
   of_two = 0;
   reached = reads_by_then (taken one.slot reads.count) same (both_taken one.slot two.slot reads.count 0) a b b (λ v. sym (taken-none two.slot (taken one.slot reads.count v))) reads.takes.reached (as_reads same b b (begin same b (λ v. refl)));
-  ends = omega (arith, reads.ends);
+  knows = λ k. (subst (λ (s : ℕ). Knows s one'.ahead b) (sym slot) (knows_after one.slot one.ahead one'.ahead a b P reads), knows_beside one.slot two.slot one.ahead one'.ahead two.ahead a b P (λ e. apart (sym e)) reads k.1);
   told = weaker_told a (Tells one.slot reads.count one.ahead one'.ahead P) (λ t. BothTell one two one' two reads.count 0 Q (t.left one.slot) (t.left two.slot))
       (λ t p rest other may may'. gives (before_end one.ahead (take reads.count (t.left one.slot) ++ rest)) (before_end two.ahead other) (before_end one'.ahead rest) (p rest may)) reads.told;
 }
@@ -122,7 +126,7 @@ both_of_two one two two' a b P Q apart slot gives reads = record {
   of_one = 0;
   of_two = reads.count;
   reached = reads_by_then (taken two.slot reads.count) same (both_taken one.slot two.slot 0 reads.count) a b b (λ v. ap (taken two.slot reads.count) (sym (taken-none one.slot v))) reads.takes.reached (as_reads same b b (begin same b (λ v. refl)));
-  ends = omega (arith, reads.ends);
+  knows = λ k. (knows_beside two.slot one.slot two.ahead two'.ahead one.ahead a b P apart reads k.0, subst (λ (s : ℕ). Knows s two'.ahead b) (sym slot) (knows_after two.slot two.ahead two'.ahead a b P reads));
   told = weaker_told a (Tells two.slot reads.count two.ahead two'.ahead P) (λ t. BothTell one two one two' 0 reads.count Q (t.left one.slot) (t.left two.slot))
       (λ t p rest other may may'. gives (before_end one.ahead rest) (before_end two.ahead (take reads.count (t.left two.slot) ++ other)) (before_end two'.ahead other) (p other may')) reads.told;
 }
@@ -137,7 +141,7 @@ both_weaker one two one' two' a b P Q h reads = record {
   of_one = reads.of_one;
   of_two = reads.of_two;
   reached = reads.reached;
-  ends = reads.ends;
+  knows = reads.knows;
   told = weaker_told a (λ t. BothTell one two one' two' reads.of_one reads.of_two P (t.left one.slot) (t.left two.slot)) (λ t. BothTell one two one' two' reads.of_one reads.of_two Q (t.left one.slot) (t.left two.slot))
       (λ t p rest other may may'. h (before_end one.ahead (take reads.of_one (t.left one.slot) ++ rest)) (before_end two.ahead (take reads.of_two (t.left two.slot) ++ other)) (before_end one'.ahead rest) (before_end two'.ahead other) (p rest other may may')) reads.told;
 }
@@ -171,7 +175,7 @@ both_then one two one' two' one'' two'' a b c P Q R gives first second =
       of_one = n + n';
       of_two = m + m';
       reached = reads_by_then (both_taken x y n m) (both_taken x y n' m') (both_taken x y (n + n') (m + m')) a b c (λ v. both-both x y n m n' m' v first.apart) first.reached reached;
-      ends = omega (arith, first.ends, second.ends);
+      knows = λ k. second.knows (first.knows k);
       told = both_told (λ t. BothTell one two one' two' n m P (t.left x) (t.left y)) (λ t. BothTell one' two' one'' two'' n' m' Q (drop n (t.left x)) (drop m (t.left y))) (λ t. BothTell one two one'' two'' (n + n') (m + m') R (t.left x) (t.left y)) a
           (λ t p q rest other may may'.
           let left : List ℕ = t.left x in
@@ -225,7 +229,6 @@ misses_later one two one' two' a b c P Q R back first second =
       of_two = m + m';
       fails = then_fails_to_read (both_taken x y n m) (both_taken x y n' m') (both_taken x y (n + n') (m + m')) a b c (λ v. both-both x y n m n' m' v first.apart) first.reached
           (subst (λ (s : ℕ). FailsToRead (both_taken s y n' m') b c) first.one_slot (subst (λ (s : ℕ). FailsToRead (both_taken one'.slot s n' m') b c) first.two_slot second.fails));
-      ends = omega (arith, first.ends, second.ends);
       told = both_told (λ t. BothTell one two one' two' n m P (t.left x) (t.left y)) (λ t. Later (drop n (t.left x)) (drop m (t.left y))) (λ t. R (CouldStand one.ahead two.ahead (take (n + n') (t.left x)) (take (m + m') (t.left y)))) a
           (λ t p q. back (CouldStand one.ahead two.ahead (take (n + n') (t.left x)) (take (m + m') (t.left y))) (CouldStand one'.ahead two'.ahead (take n' (drop n (t.left x))) (take m' (drop m (t.left y))))
           (λ c' p' could. came n m n' m' (t.left x) (t.left y) p c' p' could) q) first.told later;
@@ -265,7 +268,6 @@ misses_one one two a b P Q gives h = record {
   of_one = h.count;
   of_two = 0;
   fails = then_same (taken one.slot h.count) (both_taken one.slot two.slot h.count 0) a b (λ v. taken-none two.slot (taken one.slot h.count v)) h.fails;
-  ends = omega (arith, h.ends);
   told = weaker_told a (λ t. (h.count ≤ length (t.left one.slot)) × P (one.ahead.bytes ++ take h.count (t.left one.slot))) (λ t. Q (CouldStand one.ahead two.ahead (take h.count (t.left one.slot)) (take 0 (t.left two.slot))))
       (λ t p. gives (CouldStand one.ahead two.ahead (take h.count (t.left one.slot)) (take 0 (t.left two.slot))) (one.ahead.bytes ++ take h.count (t.left one.slot)) (before_end two.ahead [])
       (λ behind. record { behind_one = behind; behind_two = []; at_one = opens one.ahead (take h.count (t.left one.slot)) behind h.not_over; at_two = refl }) p.1) h.told;
@@ -278,7 +280,6 @@ misses_two one two a b P Q gives h = record {
   of_one = 0;
   of_two = h.count;
   fails = then_same (taken two.slot h.count) (both_taken one.slot two.slot 0 h.count) a b (λ v. ap (taken two.slot h.count) (taken-none one.slot v)) h.fails;
-  ends = omega (arith, h.ends);
   told = weaker_told a (λ t. (h.count ≤ length (t.left two.slot)) × P (two.ahead.bytes ++ take h.count (t.left two.slot))) (λ t. Q (CouldStand one.ahead two.ahead (take 0 (t.left one.slot)) (take h.count (t.left two.slot))))
       (λ t p. gives (CouldStand one.ahead two.ahead (take 0 (t.left one.slot)) (take h.count (t.left two.slot))) (before_end one.ahead []) (two.ahead.bytes ++ take h.count (t.left two.slot))
       (λ behind. record { behind_one = []; behind_two = behind; at_one = refl; at_two = opens two.ahead (take h.count (t.left two.slot)) behind h.not_over }) p.1) h.told;
@@ -288,12 +289,11 @@ misses_two one two a b P Q gives h = record {
 pub misses_new : (one two : Reader) (x y : ℕ) (a b : DeskState) (P : (List ℕ → List ℕ → Type 0) → Type 0) (Q : List ℕ → List ℕ → Type 0) → one.slot ≡ x → two.slot ≡ y → one.ahead ≡ nothing_held → two.ahead ≡ nothing_held
     → ((c p : List ℕ) → P (λ c' p'. (behind : List ℕ) × (other : List ℕ) × (c' ≡ c ++ behind) × (p' ≡ p ++ other)) → Q c p)
     → ((May May' : List ℕ → List ℕ → Type 0) → ((c p : List ℕ) → May c p → May' c p) → P May → P May')
-    → MissesBoth one two a b P → FailsBoth x y 2 Q a b
+    → MissesBoth one two a b P → FailsBoth x y Q a b
 misses_new one two x y a b P Q at_x at_y none_x none_y gives wider h = record {
   of_one = h.of_one;
   of_two = h.of_two;
   fails = subst (λ (s : ℕ). FailsToRead (both_taken s y h.of_one h.of_two) a b) at_x (subst (λ (s : ℕ). FailsToRead (both_taken one.slot s h.of_one h.of_two) a b) at_y h.fails);
-  ends = omega (arith, h.ends, ap may_end none_x, ap may_end none_y);
   told = weaker_told a (λ t. P (CouldStand one.ahead two.ahead (take h.of_one (t.left one.slot)) (take h.of_two (t.left two.slot)))) (λ t. Q (take h.of_one (t.left x)) (take h.of_two (t.left y)))
       (λ t p.
       subst (λ (s : ℕ). Q (take h.of_one (t.left s)) (take h.of_two (t.left y))) at_x
@@ -315,7 +315,6 @@ takes_both one two one' two' x y a b P Q at_x at_y none_x none_y gives reads = r
   of_one = reads.of_one;
   of_two = reads.of_two;
   reached = subst (λ (s : ℕ). Reads (both_taken s y reads.of_one reads.of_two) a b) at_x (subst (λ (s : ℕ). Reads (both_taken one.slot s reads.of_one reads.of_two) a b) at_y reads.reached);
-  ends = omega (arith, reads.ends, ap may_end none_x, ap may_end none_y);
   texts = weaker_told a (λ t. BothTell one two one' two' reads.of_one reads.of_two P (t.left one.slot) (t.left two.slot)) (λ t. Q (t.left x) (t.left y))
       (λ t p.
       let rest : List ℕ = drop reads.of_one (t.left one.slot) in
@@ -334,6 +333,5 @@ takes_none x y a = record {
   of_one = 0;
   of_two = 0;
   reached = as_reads (both_taken x y 0 0) a a (begin (both_taken x y 0 0) a (λ v. ap (taken y 0) (taken-none x v) ∙ taken-none y v));
-  ends = omega arith;
   texts = always_told a (λ t. Unit {0}) (λ t. tt);
 }

@@ -1,6 +1,6 @@
 -- Bytes that go from a slot to a line.
 use Rattle.std.proofs.Common.{◌≡◌, ◌≤◌, ◌<◌, ◌+◌, ℕ, Bool, true, false, List, [], ◌∷◌, ◌++◌, arith, length, take, drop, refl, ap, sym, ◌∙◌, subst, append_assoc}
-use Rattle.std.specs.Prelude.{IfErr, IfSome, IsTrue, Result, ◌==◌, if◌then◌else◌}
+use Rattle.std.specs.Prelude.{IfErr, IfSome, IsTrue, Result, ◌==◌}
 use Rattle.std.specs.Result.{IsErrAnd}
 use Rattle.std.specs.declared.result.Result.TheVariants.{Ok, Err}
 use Rattle.std.proofs.lemmas.Bool.{eqb-true, true≢false}
@@ -8,17 +8,17 @@ use Rattle.std.specs.declared.option.Option.{Option}
 use Rattle.std.specs.declared.option.Option.TheVariants.{Some, None}
 use Rattle.std.proofs.lemmas.List.{drop-drop, append-nil, length-drop, take-append-drop}
 use Rattle.std.proofs.Math.Seq.{take-add}
-use Rattle.pb_desk.specs.View.{Told, View, taken}
+use Rattle.pb_desk.specs.View.{Told, View, put, taken}
 use Rattle.pb_desk.specs.Desk.{DeskState, Advances, FailsToRead, IfTold, same}
 use Rattle.pb_desk.proofs.Steps.{as_reads, begin, reads_by_then, then_fails_to_read}
-use Rattle.pb_desk.proofs.Readings.{taken-taken, told_after, both_told}
+use Rattle.pb_desk.proofs.Readings.{put-same, put-put, taken-taken, told_after, both_told}
 use Rattle.pb_desk.proofs.Slots.{put_there}
 use Rattle.pb_desk.specs.declared.limits.Remaining.{Remaining}
 use Rattle.pb_desk.specs.declared.piece.Stop.{Stop}
 use Rattle.pb_desk.specs.declared.piece.Stop.TheVariants as stop
 use Rattle.pb_desk.specs.declared.line.Found.TheVariants.{Ended}
 use Rattle.pb_desk.proofs.LineLemmas.{begins_break, begins_last}
-use Rattle.pb_desk.specs.LineReading.{Held, MayStand, before_end, beyond, limit_in, may_end, TakesAhead, FailsAhead, IsPart}
+use Rattle.pb_desk.specs.LineReading.{Held, MayStand, before_end, beyond, limit_in, Knows, TakesAhead, FailsAhead, IsPart}
 use Rattle.pb_desk.specs.inner.PieceReading.{InLine, TakesPiece, StopsPiece, Finds, Fits, StopsLine, found_at_end, Refills}
 
 pub taken-none : (slot : ℕ) (view : View) → taken slot 0 view ≡ view
@@ -42,18 +42,18 @@ abbrev pub Tells : ℕ → ℕ → Held → Held → (List ℕ → List ℕ → 
 Tells slot count x y P t = (rest : List ℕ) → MayStand y (drop count (t.left slot)) rest → P (before_end x (take count (t.left slot) ++ rest)) (before_end y rest)
 
 -- nothing is read
-reads_nothing : (slot : ℕ) (ahead : Held) (a : DeskState) (P : List ℕ → List ℕ → Type 0) → ((left : List ℕ) → P (before_end ahead left) (before_end ahead left)) → TakesAhead slot ahead ahead a a P
-reads_nothing slot ahead a P h = record {
+reads_nothing : (slot : ℕ) (ahead : Held) (a : DeskState) (P : List ℕ → List ℕ → Type 0) → Knows slot ahead a → ((left : List ℕ) → P (before_end ahead left) (before_end ahead left)) → TakesAhead slot ahead ahead a a P
+reads_nothing slot ahead a P knows h = record {
   count = 0;
   takes = record { reached = as_reads (taken slot 0) a a (begin (taken slot 0) a (taken-none slot)); were_left = always_told a (λ t. 0 ≤ length (t.left slot)) (λ t. omega arith) };
   over = λ e. e;
-  ends = omega arith;
+  ended = sym (put_there a.ended slot ahead.over knows);
   told = always_told a (Tells slot 0 ahead ahead P) (λ t rest may. h rest);
 }
 
 -- nothing was read yet
-pub reads_begin : (slot : ℕ) (ahead : Held) (a : DeskState) (P : List ℕ → List ℕ → Type 0) → ((text : List ℕ) → P text text) → TakesAhead slot ahead ahead a a P
-reads_begin slot ahead a P h = reads_nothing slot ahead a P (λ left. h (before_end ahead left))
+pub reads_begin : (slot : ℕ) (ahead : Held) (a : DeskState) (P : List ℕ → List ℕ → Type 0) → Knows slot ahead a → ((text : List ℕ) → P text text) → TakesAhead slot ahead ahead a a P
+reads_begin slot ahead a P knows h = reads_nothing slot ahead a P knows (λ left. h (before_end ahead left))
 
 takes_takes : (slot n m : ℕ) (a b c : DeskState) → Advances slot n a b → Advances slot m b c → Advances slot (n + m) a c
 takes_takes slot n m a b c first second = record {
@@ -74,7 +74,7 @@ reads_then slot x y z a b c P Q R joins first second =
       count = first.count + second.count;
       takes = takes_takes slot first.count second.count a b c first.takes second.takes;
       over = λ e. second.over (first.over e);
-      ends = omega (arith, first.ends, second.ends);
+      ended = second.ended ∙ (ap (λ (f : ℕ → Bool). put f slot z.over) first.ended ∙ put-put a.ended slot y.over z.over);
       told = both_told (Tells slot first.count x y P) (λ t. Later second.count (drop first.count (t.left slot))) (Tells slot (first.count + second.count) x z R) a
           (λ t p q rest may. join first.count second.count (t.left slot) rest may p q) first.told later;
     }
@@ -97,7 +97,7 @@ reads_ahead slot x y z a b P Q same_end h first = record {
   count = first.count;
   takes = first.takes;
   over = λ e. same_end ∙ first.over e;
-  ends = subst (λ (over : Bool). b.ends + (if over then 0 else 1) ≤ a.ends + may_end x) (sym same_end) first.ends;
+  ended = first.ended ∙ ap (λ (over : Bool). put a.ended slot over) (sym same_end);
   told = weaker_told a (Tells slot first.count x y P) (Tells slot first.count x z Q)
       (λ t p rest may. subst (λ (over : Bool). Q (before_end x (take first.count (t.left slot) ++ rest)) (z.bytes ++ beyond over rest)) (sym same_end)
       (h (before_end x (take first.count (t.left slot) ++ rest)) (beyond y.over rest) (p rest (λ e. may (same_end ∙ e))))) first.told;
@@ -110,6 +110,10 @@ reads_weaker slot x y a b P Q h first = reads_ahead slot x y y a b P Q refl (λ 
 pub still_open : (slot : ℕ) (x y : Held) (a b : DeskState) (P : List ℕ → List ℕ → Type 0) → TakesAhead slot x y a b P → IsTrue (a.view.reading slot) → IsTrue (b.view.reading slot)
 still_open slot x y a b P first is_open = ap (λ (v : View). v.reading slot) first.takes.reached.view ∙ is_open
 
+-- where a read ended, the desk knows of the slot what the reader does
+pub knows_after : (slot : ℕ) (x y : Held) (a b : DeskState) (P : List ℕ → List ℕ → Type 0) → TakesAhead slot x y a b P → Knows slot y b
+knows_after slot x y a b P first = ap (λ (f : ℕ → Bool). f slot) first.ended ∙ put-same a.ended slot y.over
+
 some_bytes : (xs : List ℕ) → (length xs == 0) ≡ false → 0 < length xs
 some_bytes [] e = absurd (true≢false e)
 some_bytes (x ∷ xs) e = omega arith
@@ -119,18 +123,18 @@ no_bytes [] e = refl
 no_bytes (x ∷ xs) e = absurd (omega (arith, eqb-true (length (x ∷ xs)) 0 e))
 
 -- something is ahead already
-pub refilled_before : (slot : ℕ) (ahead : Held) (bytes : List ℕ) (a : DeskState) → bytes ≡ ahead.bytes → (length bytes == 0) ≡ false → Refills slot true ahead ahead a a
-refilled_before slot ahead bytes a same' some = record {
-  reads = reads_begin slot ahead a (λ text rest. (text ≡ rest) × (true ≡ false → rest ≡ [])) (λ text. (refl, λ e. absurd (true≢false e)));
+pub refilled_before : (slot : ℕ) (ahead : Held) (bytes : List ℕ) (a : DeskState) → Knows slot ahead a → bytes ≡ ahead.bytes → (length bytes == 0) ≡ false → Refills slot true ahead ahead a a
+refilled_before slot ahead bytes a knows same' some = record {
+  reads = reads_begin slot ahead a (λ text rest. (text ≡ rest) × (true ≡ false → rest ≡ [])) knows (λ text. (refl, λ e. absurd (true≢false e)));
   some_ahead = λ _. some_bytes ahead.bytes (ap (λ (xs : List ℕ). length xs == 0) (sym same') ∙ some);
 }
 
 -- the end was met before
-pub refilled_over : (slot : ℕ) (ahead : Held) (bytes : List ℕ) (a : DeskState) → bytes ≡ ahead.bytes → (length bytes == 0) ≡ true → ahead.over ≡ true → Refills slot false ahead ahead a a
-refilled_over slot ahead bytes a same' none is_over =
+pub refilled_over : (slot : ℕ) (ahead : Held) (bytes : List ℕ) (a : DeskState) → Knows slot ahead a → bytes ≡ ahead.bytes → (length bytes == 0) ≡ true → ahead.over ≡ true → Refills slot false ahead ahead a a
+refilled_over slot ahead bytes a knows same' none is_over =
     let empty : (left : List ℕ) → before_end ahead left ≡ [] = λ left. ap (λ (over : Bool). ahead.bytes ++ beyond over left) is_over ∙ (append-nil ahead.bytes ∙ (sym same' ∙ no_bytes bytes none)) in
     record {
-      reads = reads_nothing slot ahead a (λ text rest. (text ≡ rest) × (false ≡ false → rest ≡ [])) (λ left. (refl, λ e. empty left));
+      reads = reads_nothing slot ahead a (λ text rest. (text ≡ rest) × (false ≡ false → rest ≡ [])) knows (λ left. (refl, λ e. empty left));
       some_ahead = λ e. absurd (true≢false (sym e));
     }
 
@@ -186,12 +190,11 @@ line_stops left slot stop.NoMemory line x z w a c same_end stops first =
 -- ---- a read that fails
 
 -- the first read fails
-pub fails_at_once : (slot : ℕ) (ahead : Held) (a b : DeskState) (P : List ℕ → Type 0) → P ahead.bytes → ahead.over ≡ false → b.ends ≡ a.ends → FailsToRead same a b → FailsAhead slot ahead a b P
-fails_at_once slot ahead a b P h not_over stays fails = record {
+pub fails_at_once : (slot : ℕ) (ahead : Held) (a b : DeskState) (P : List ℕ → Type 0) → P ahead.bytes → ahead.over ≡ false → FailsToRead same a b → FailsAhead slot ahead a b P
+fails_at_once slot ahead a b P h not_over fails = record {
   count = 0;
   fails = record { view = fails.view ∙ sym (taken-none slot a.view); tells = fails.tells; reads = fails.reads; writes = fails.writes };
   not_over = not_over;
-  ends = omega (arith, stays);
   told = always_told a (λ t. (0 ≤ length (t.left slot)) × P (ahead.bytes ++ take 0 (t.left slot))) (λ t. (omega arith, subst P (sym (append-nil ahead.bytes)) h));
 }
 
@@ -207,7 +210,6 @@ fails_then slot x y a b c P Q R joins first second =
       count = first.count + second.count;
       fails = then_fails_to_read (taken slot first.count) (taken slot second.count) (taken slot (first.count + second.count)) a b c (taken-taken slot first.count second.count) first.takes.reached second.fails;
       not_over = open_before x.over refl;
-      ends = omega (arith, first.ends, second.ends);
       told = both_told (λ t. (first.count ≤ length (t.left slot)) × Tells slot first.count x y P t)
           (λ t. (second.count ≤ length (drop first.count (t.left slot))) × Q (y.bytes ++ take second.count (drop first.count (t.left slot))))
           (λ t. (first.count + second.count ≤ length (t.left slot)) × R (x.bytes ++ take (first.count + second.count) (t.left slot))) a
@@ -237,19 +239,18 @@ fails_weaker slot ahead a b P Q weaker h = record {
   count = h.count;
   fails = h.fails;
   not_over = h.not_over;
-  ends = h.ends;
   told = weaker_told a (λ t. (h.count ≤ length (t.left slot)) × P (ahead.bytes ++ take h.count (t.left slot))) (λ t. (h.count ≤ length (t.left slot)) × Q (ahead.bytes ++ take h.count (t.left slot)))
       (λ t p. (p.0, weaker (ahead.bytes ++ take h.count (t.left slot)) p.1)) h.told;
 }
 
 -- a line's end is not there yet
-pub line_fails : (left : Remaining) (slot : ℕ) (line : List ℕ) (x y : Held) (a b c : DeskState) → InLine left line → y.bytes ≡ [] → y.over ≡ false → c.ends ≡ b.ends → TakesAhead slot x y a b (Behind line) → FailsToRead same b c → FailsAhead slot x a c (IsPart left)
-line_fails left slot line x y a b c h none not_over stays first fails =
+pub line_fails : (left : Remaining) (slot : ℕ) (line : List ℕ) (x y : Held) (a b c : DeskState) → InLine left line → y.bytes ≡ [] → y.over ≡ false → TakesAhead slot x y a b (Behind line) → FailsToRead same b c → FailsAhead slot x a c (IsPart left)
+line_fails left slot line x y a b c h none not_over first fails =
     fails_then slot x y a b c (Behind line) (λ part. part ≡ []) (IsPart left)
     (λ bytes part p q.
     let whole : bytes ≡ line = sym (append-nil bytes) ∙ (p [] ∙ (ap (λ (xs : List ℕ). line ++ (xs ++ [])) q ∙ append-nil line)) in
     subst (IsPart left) (sym whole) (h.unbroken, ap (limit_in left) (sym (append-nil line)) ∙ h.limit [])) first
-    (fails_at_once slot y b c (λ part. part ≡ []) none not_over stays fails)
+    (fails_at_once slot y b c (λ part. part ≡ []) none not_over fails)
 
 -- what is so of a failed read is so of that answer
 pub of_failed : {A : Type 0} (r : Result A Stop) (P : Stop → Type 0) → IsErrAnd r (λ why. why ≡ stop.Failed) → P stop.Failed → IfErr r P

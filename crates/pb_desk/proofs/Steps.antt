@@ -9,7 +9,7 @@ use Rattle.pb_desk.specs.View.{View}
 use Rattle.pb_desk.specs.Desk.{DeskState, Reads, Reaches, FailsToWrite, FailsToRead}
 
 pub begin : (f : View → View) (a : DeskState) → ((v : View) → f v ≡ v) → Reaches f a a
-begin f a stays = record { view = sym (stays a.view); tells = refl; reads = refl; writes = refl; ends = refl }
+begin f a stays = record { view = sym (stays a.view); tells = refl; reads = refl; writes = refl; ended = refl }
 
 -- a call that goes on from what was reached
 pub then : (f g h : View → View) (a b c : DeskState) → ((v : View) → g (f v) ≡ h v) → Reaches f a b → Reaches g b c → Reaches h a c
@@ -18,7 +18,7 @@ then f g h a b c joins first second = record {
   tells = second.tells ∙ first.tells;
   reads = second.reads ∙ first.reads;
   writes = second.writes ∙ first.writes;
-  ends = second.ends ∙ first.ends;
+  ended = second.ended ∙ first.ended;
 }
 
 -- where all counts stay, those of faults do
@@ -39,7 +39,7 @@ then_fails_to_write f g h a b c joins first second = record {
   tells = second.tells ∙ first.tells;
   reads = second.reads ∙ first.reads;
   writes = rose_later _ _ _ first.writes second.writes;
-  ends = second.ends ∙ first.ends;
+  ended = second.ended ∙ first.ended;
 }
 
 pub then_fails_to_read : (f g h : View → View) (a b c : DeskState) → ((v : View) → g (f v) ≡ h v) → Reads f a b → FailsToRead g b c → FailsToRead h a c

@@ -1,31 +1,31 @@
 -- How a call leaves a desk (our own).
-use Rattle.std.specs.Prelude.{ℕ, ◌+◌, ◌≤◌, ◌<◌, ◌≡◌, ◌⊎◌, false, List, [], ◌∷◌, take, length, is_some, IfSome, IsSomeAnd, IsTrue, All}
+use Rattle.std.specs.Prelude.{ℕ, Bool, ◌+◌, ◌≤◌, ◌<◌, ◌≡◌, ◌⊎◌, false, List, [], ◌∷◌, take, length, is_some, IfSome, IsSomeAnd, IsTrue, All}
 use Rattle.std.specs.declared.option.Option.{Option}
 use Rattle.std.specs.declared.option.Option.TheVariants.{Some}
 use Rattle.pb_base.specs.FaultCounts.{Rose}
 use Rattle.pb_desk.specs.View.{Made, Told, View, bytes_in, taken}
 
--- a desk, as contracts see it: what it shows, how many reads and writes have failed, and how many reads gave no byte
+-- a desk, as contracts see it: what it shows, how many reads and writes have failed, and of which slots the end was met
 pub record DeskState : Type 0 where
   pub view : View
   pub read_faults : ℕ
   pub write_faults : ℕ
-  pub ends : ℕ
+  pub ended : ℕ → Bool
 
--- Nothing failed: the view changed so, and the counts of faults stay.
+-- Nothing failed: the view changed so, and the counts of faults stay. Which ends were met may have changed.
 pub record Reads (change : View → View) (old new : DeskState) : Type 0 where
   pub view : new.view ≡ change old.view
   pub tells : is_some new.view.told ≡ is_some old.view.told
   pub reads : new.read_faults ≡ old.read_faults
   pub writes : new.write_faults ≡ old.write_faults
 
--- The same, and no read gave no byte: all counts stay.
+-- The same, and the slots whose end was met are those.
 pub record Reaches (change : View → View) (old new : DeskState) : Type 0 where
   pub view : new.view ≡ change old.view
   pub tells : is_some new.view.told ≡ is_some old.view.told
   pub reads : new.read_faults ≡ old.read_faults
   pub writes : new.write_faults ≡ old.write_faults
-  pub ends : new.ends ≡ old.ends
+  pub ended : new.ended ≡ old.ended
 
 -- A read failed after the view changed so. The count of reads rose by one, and that of writes stays.
 pub record FailsToRead (change : View → View) (old new : DeskState) : Type 0 where
@@ -34,13 +34,13 @@ pub record FailsToRead (change : View → View) (old new : DeskState) : Type 0 w
   pub reads : Rose old.read_faults new.read_faults
   pub writes : new.write_faults ≡ old.write_faults
 
--- A write failed after the view changed so. The count of writes rose by one, and those of reads stay.
+-- A write failed after the view changed so. The count of writes rose by one, and that of reads and the ends stay.
 pub record FailsToWrite (change : View → View) (old new : DeskState) : Type 0 where
   pub view : new.view ≡ change old.view
   pub tells : is_some new.view.told ≡ is_some old.view.told
   pub reads : new.read_faults ≡ old.read_faults
   pub writes : Rose old.write_faults new.write_faults
-  pub ends : new.ends ≡ old.ends
+  pub ended : new.ended ≡ old.ended
 
 abbrev pub same : View → View
 same view = view

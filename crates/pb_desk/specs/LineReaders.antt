@@ -22,7 +22,7 @@ pub record Reader : Type 0 where
 
 -- what holds of each reader
 pub record IsReader (slot : ℕ) (limits : LineLimits) (at number : ℕ) : Type 0 where
-  pub in_slots : slot < 4
+  pub in_slots : slot < 5
   pub in_text : at ≤ limits.text
   pub in_lines : number ≤ limits.lines
   pub few_lines : limits.lines < 2 ^ 63

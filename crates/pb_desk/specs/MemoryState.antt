@@ -44,7 +44,7 @@ state_of desk = record {
   };
   read_faults = desk.read_faults;
   write_faults = desk.write_faults;
-  ends = desk.ends;
+  ended = λ slot. slice_index_or desk.over slot false;
 }
 
 -- what it goes by

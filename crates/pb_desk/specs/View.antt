@@ -1,4 +1,6 @@
 -- What a desk shows, but for its counts of faults, and what each call makes of it (our own).
+-- The newest file comes first in the list of files that were made, so that a new one leaves the others as they are. The bytes of a
+-- slot are those of its newest file, and one truth value, kept by `create`, says which of the two slots has the newer one.
 use Rattle.std.specs.Prelude.{ℕ, Bool, true, false, ◌==◌, if◌then◌else◌, List, [], ◌∷◌, ◌++◌, drop}
 use Rattle.std.specs.Option.{option_map, unwrap_or}
 use Rattle.std.specs.declared.option.Option.{Option}

@@ -1,5 +1,6 @@
 // Bytes that were taken from a slot before they are needed.
-ghost use Rattle.std.specs.Prelude.{◌≡◌, ◌≤◌, ◌<◌, ◌+◌, ◌++◌, ◌==◌, [], false, if◌then◌else◌, length, drop, IfOk, OnOk, OnErr, IsTrue};
+ghost use Rattle.std.specs.Prelude.{◌≡◌, ◌≤◌, ◌<◌, ◌++◌, ◌==◌, [], false, length, drop, IfOk, OnOk, OnErr, IsTrue};
+ghost use Rattle.pb_desk.specs.View.{put};
 ghost use Rattle.pb_desk.specs.Desk.{Advances, FailsToRead, IfTold, IsSteady, same};
 ghost use Rattle.pb_desk.specs.LineReading.{nothing_held};
 
@@ -68,15 +69,15 @@ impl ReadBuffer {
     pub fn fill<D: Desk>(&mut self, desk: &mut D, slot: u8) -> Result<(), Failed>
         requires empty { self.old.bytes ≡ [] }
         requires not_over { self.old.over ≡ false }
-        requires kind { slot < 4 }
+        requires kind { slot < 5 }
         requires open { IsTrue ((D.state desk.old).view.reading slot) }
+        requires not_ended { (D.state desk.old).ended slot ≡ false }
         ensures taken { OnOk result (Advances slot (length self.new.bytes) (D.state desk.old) (D.state desk.new)) }
         ensures bytes { OnOk result (IfTold (D.state desk.old) (λ t. t.left slot ≡ self.new.bytes ++ drop (length self.new.bytes) (t.left slot))) }
         ensures end { OnOk result (self.new.bytes ≡ [] → IfTold (D.state desk.old) (λ t. t.left slot ≡ [])) }
         ensures over { OnOk result (self.new.over ≡ (length self.new.bytes == 0)) }
-        ensures ends { OnOk result ((D.state desk.new).ends ≤ (D.state desk.old).ends + (if self.new.over then 1 else 0)) }
+        ensures ended { OnOk result ((D.state desk.new).ended ≡ put (D.state desk.old).ended slot self.new.over) }
         ensures failed { OnErr result (FailsToRead same (D.state desk.old) (D.state desk.new)) }
-        ensures no_end { OnErr result ((D.state desk.new).ends ≡ (D.state desk.old).ends) }
         ensures steady { IsSteady (D.state desk.old) → OnErr result ⊥ }
     {
         let count = desk.read(slot, self.room.as_mut_slice())?;

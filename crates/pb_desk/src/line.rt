@@ -1,7 +1,7 @@
 // One line, from a desk in pieces.
 ghost use Rattle.std.specs.Prelude.{◌≡◌, ◌≢◌, ◌<◌, [], true, false, IsTrue, IfOk, IfErr, OnErr, Err};
 ghost use Rattle.pb_desk.specs.Desk.{IsSteady, FailsToRead, same};
-ghost use Rattle.pb_desk.specs.LineReading.{TakesAhead};
+ghost use Rattle.pb_desk.specs.LineReading.{Knows, TakesAhead};
 ghost use Rattle.pb_desk.specs.inner.PieceReading.{Finds, Fits, StopsLine, Refills, found_at_end};
 
 use crate::Desk;
@@ -31,13 +31,13 @@ impl From<Failed> for Stop {
 
 // Takes more from the slot, if nothing is ahead. False at the end of the text, which is met once.
 fn refill<D: Desk>(desk: &mut D, slot: u8, ahead: &mut ReadBuffer) -> Result<bool, Failed>
-    requires kind { slot < 4 }
+    requires kind { slot < 5 }
     requires open { IsTrue ((D.state desk.old).view.reading slot) }
+    requires knows { Knows slot ahead.old (D.state desk.old) }
     ensures filled { IfOk result (λ some. Refills slot some ahead.old ahead.new (D.state desk.old) (D.state desk.new)) }
     ensures failed { OnErr result (FailsToRead same (D.state desk.old) (D.state desk.new)) }
     ensures none { OnErr result (ahead.old.bytes ≡ []) }
     ensures not_over { OnErr result (ahead.old.over ≡ false) }
-    ensures no_end { OnErr result ((D.state desk.new).ends ≡ (D.state desk.old).ends) }
     ensures steady { IsSteady (D.state desk.old) → OnErr result ⊥ }
 {
     if !ahead.bytes().is_empty() {
@@ -69,8 +69,9 @@ pub fn read_line<D: Desk>(
     line: &mut Vec<u8>,
     left: &Remaining,
 ) -> Result<Found, Stop>
-    requires kind { slot < 4 }
+    requires kind { slot < 5 }
     requires open { IsTrue ((D.state desk.old).view.reading slot) }
+    requires knows { Knows slot ahead.old (D.state desk.old) }
     requires empty { line.old.items ≡ [] }
     ensures found { IfOk result (λ found. TakesAhead slot ahead.old ahead.new (D.state desk.old) (D.state desk.new) (Finds left.now found line.new.items)) }
     ensures fits { IfOk result (λ found. Fits left.now found line.new.items) }

@@ -1,8 +1,15 @@
 // Line after line of a text.
+//
+// A reader remembers that it met the end of its slot. If a last line has no LF, the end was met while that line was read, and the
+// reader does not read again: at a terminal one ^D is enough, and what is typed after it is left alone. Contracts see this as a part
+// of what a reader holds (`Held`): after the end nothing is to come for this reader, whatever the slot has yet (`before_end`). So no
+// loop above has to show that nothing remains.
+//
+// Limits on lines are below 2^63, so that the number of a refused line fits.
 ghost use Rattle.std.specs.Prelude.{◌≡◌, ◌≢◌, ◌≤◌, ◌<◌, ◌^◌, [], IsTrue, Some, None, Ok, Err, IfOk, IfErr, OnOk};
 ghost use Rattle.pb_desk.specs.Desk.{IsSteady};
 ghost use Rattle.pb_desk.specs.LineReaders.{Reader, GivesLine, StopsAt, fault_at};
-ghost use Rattle.pb_desk.specs.LineReading.{nothing_held};
+ghost use Rattle.pb_desk.specs.LineReading.{Knows, nothing_held};
 
 use crate::Desk;
 use crate::ahead::ReadBuffer;
@@ -79,7 +86,7 @@ fn fault_at(stop: Stop, line: u64) -> LineFault
 impl LineReader {
     /// Reads what a slot has left. The slot is opened before the first line is read.
     pub fn new(alloc: Global, slot: u8, limits: LineLimits) -> Result<LineReader, NoMemory>
-        requires slot { slot < 4 }
+        requires slot { slot < 5 }
         requires lines { limits.lines < 2 ^ 63 }
         ensures { IfOk result (λ reader. reader ≡ record { slot = slot; limits = limits; ahead = nothing_held; at = 0; number = 0; line = []; fault = None }) }
     {
@@ -110,12 +117,21 @@ impl LineReader {
 
     /// Reads the next line, of an open slot from which nothing else reads. False at the end of the text.
     pub fn next_line<D: Desk>(&mut self, desk: &mut D) -> Result<bool, LineFault>
-        requires { IsTrue ((D.state desk.old).view.reading self.old.slot) }
+        requires open { IsTrue ((D.state desk.old).view.reading self.old.slot) }
+        requires knows { self.old.fault ≡ None → Knows self.old.slot self.old.ahead (D.state desk.old) }
+        // After a fault the answer is that fault, and the desk is left alone.
         ensures again { (f : LineFault) → self.old.fault ≡ Some f → (result ≡ Err f) × (self.new ≡ self.old) × (D.state desk.new ≡ D.state desk.old) }
+        // On a visible desk the line is the first of the rest, also one without LF at the end, and what follows it is the new rest; false
+        // is answered only at the end.
         ensures line { self.old.fault ≡ None → IfOk result (λ more. GivesLine more self.old self.new (D.state desk.old) (D.state desk.new)) }
+        // On a visible desk a limit is answered iff this line is the first to pass it, at the first byte that does. A failed read is
+        // answered only if the count rose, and what was read of the line holds no LF and passes no limit.
         ensures stopped { self.old.fault ≡ None → IfErr result (λ fault. StopsAt fault self.old self.new (D.state desk.old) (D.state desk.new)) }
+        // What was read is within the limit of the text.
         ensures in_text { OnOk result (self.new.at ≤ self.new.limits.text) }
+        // The lines are within their limit.
         ensures in_lines { OnOk result (self.new.number ≤ self.new.limits.lines) }
+        // On a steady desk no read fails.
         ensures steady { IsSteady (D.state desk.old) → self.old.fault ≡ None → result ≢ Err LineFault.Failed }
     {
         if let Some(fault) = self.fault {

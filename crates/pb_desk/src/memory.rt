@@ -1,4 +1,7 @@
-// A desk in memory, whose calls fail where they are told to.
+// A desk in memory, whose calls fail where a plan says so.
+//
+// A read, a write and what is said move at least one byte if one fits, and at most `piece`: a caller that is right over every desk
+// needs no more. That as much is moved as may be, so that a run makes the fewest calls, is shown by tests that count them.
 ghost use Rattle.std.specs.Prelude.{◌≡◌, ◌≤◌};
 
 use crate::Desk;
@@ -13,7 +16,7 @@ use std::alloc::Global;
 /// says have the same room; no call takes memory.
 pub struct MemoryDesk {
     shelf: Shelf,
-    reading: [Option<Reading>; 4],
+    reading: [Option<Reading>; 5],
     zero: MemoryFile,
     one: MemoryFile,
     one_is_newest: bool,
@@ -23,7 +26,7 @@ pub struct MemoryDesk {
     room: usize,
     read_faults: FaultCount,
     write_faults: FaultCount,
-    ends: FaultCount,
+    over: [bool; 5],
     ghost some_piece: { 1 ≤ piece },
     ghost rooms: { (zero.bytes.room ≡ room) × (one.bytes.room ≡ room) × (said.room ≡ room) },
     ghost names: { (zero.name.room ≡ 255) × (one.name.room ≡ 255) },
@@ -44,7 +47,7 @@ impl Drop for MemoryDesk {
             room: _,
             read_faults: _,
             write_faults: _,
-            ends: _,
+            over: _,
         } = self;
     }
 }
@@ -68,15 +71,20 @@ impl MemoryDesk {
         room: usize,
     ) -> Result<Self, NoMemory>
         requires { 1 ≤ piece }
+        // Nothing is open.
         ensures closed { IfOk result (λ desk. IsClosed (⟦<MemoryDesk as Desk>⟧.state desk)) }
+        // The desk has the shelf's files, nothing was made or printed, and no call has failed.
         ensures fresh { IfOk result (λ desk. IsFreshWith (shelf_of shelf) (⟦<MemoryDesk as Desk>⟧.state desk)) }
+        // Each file and what is printed have this room.
         ensures room { IfOk result (λ desk. (⟦<MemoryDesk as Desk>⟧.state desk).view.room ≡ Some room) }
+        // The desk is steady iff no call is to fail.
         ensures steady { IfOk result (λ desk. IsSteady (⟦<MemoryDesk as Desk>⟧.state desk) ↔ (fails ≡ [])) }
+        // The calls that are to fail, and how many bytes a call moves, are the given ones.
         ensures plan { IfOk result (λ desk. plan_of desk ≡ record { fails = fails; calls = 0; piece = piece }) }
     {
         Ok(MemoryDesk {
             shelf,
-            reading: [None; 4],
+            reading: [None; 5],
             zero: MemoryFile::new(alloc, room)?,
             one: MemoryFile::new(alloc, room)?,
             one_is_newest: false,
@@ -86,15 +94,18 @@ impl MemoryDesk {
             room,
             read_faults: FaultCount::new(),
             write_faults: FaultCount::new(),
-            ends: FaultCount::new(),
+            over: [false; 5],
         })
     }
 
     /// The bytes of the file that was made in a slot.
     pub fn made(&self, slot: u8) -> Option<&[u8]>
         requires { slot < 2 }
+        // The bytes are those of the newest file in the slot.
         ensures bytes { IfSome result (λ bytes. IsTold (⟦<MemoryDesk as Desk>⟧.state self.now) (λ t. bytes.now ≡ bytes_in slot t.made)) }
+        // If there are any, a file was made in the slot.
         ensures some { IsSome result → IsTold (⟦<MemoryDesk as Desk>⟧.state self.now) (λ t. HasSlot slot t.made) }
+        // If there are none, no file was made in it.
         ensures none { IsNone result → IsTold (⟦<MemoryDesk as Desk>⟧.state self.now) (λ t. HasSlot slot t.made → ⊥) }
     {
         let memory_file = self.memory_file(slot);
@@ -107,6 +118,7 @@ impl MemoryDesk {
 
     /// What was said.
     pub fn said(&self) -> &[u8]
+        // The bytes are all that was printed.
         ensures { IsTold (⟦<MemoryDesk as Desk>⟧.state self.now) (λ t. result.now ≡ t.said) }
     {
         &self.said.bytes
@@ -126,9 +138,8 @@ impl MemoryDesk {
 // a cause, and it moves at most a piece.
 #[tactic(auto, unfolding(crate::specs::MemoryState::state_of, crate::specs::MemoryState::plan_of))]
 impl Desk for MemoryDesk {
-    ghost use Rattle.std.specs.Prelude.{◌≡◌, ◌≤◌, ◌<◌, ◌↔◌, ◌⊎◌, length, take, drop, false, IsTrue, IsSome, IsNone, IsErr, IfOk, OnOk, OnErr};
-    ghost use Rattle.pb_base.specs.FaultCounts.{Rose};
-    ghost use Rattle.pb_desk.specs.View.{opened, taken, created, wrote, closed, spoke};
+    ghost use Rattle.std.specs.Prelude.{◌≡◌, ◌≤◌, ◌<◌, ◌↔◌, ◌⊎◌, ◌==◌, length, take, drop, false, IsTrue, IsSome, IsNone, IsErr, IfOk, OnOk, OnErr};
+    ghost use Rattle.pb_desk.specs.View.{put, opened, taken, created, wrote, closed, spoke};
     ghost use Rattle.pb_desk.specs.Desk.{Reads, Reaches, FailsToRead, FailsToWrite, same, IsSteady, IfTold, IsTold, Gives, TakesSome, HasName, IsTaken, LacksRoom, written, words};
     ghost use Rattle.pb_desk.specs.Memory.{counted, is_failing};
     ghost use Rattle.pb_desk.specs.MemoryState.{state_of, plan_of};
@@ -137,38 +148,44 @@ impl Desk for MemoryDesk {
     ghost state = { state_of };
 
     fn open(&mut self, slot: u8, name: &str) -> Result<(), Failed>
-        requires kind { slot < 4 }
+        requires kind { slot < 5 }
         requires free { (state_of self.old).view.reading slot ≡ false }
-        ensures ok { OnOk result (Reaches (opened slot name.now) (state_of self.old) (state_of self.new)) }
+        ensures ok { OnOk result (Reads (opened slot name.now) (state_of self.old) (state_of self.new)) }
+        ensures begun { OnOk result ((state_of self.new).ended ≡ put (state_of self.old).ended slot false) }
         ensures failed { OnErr result (FailsToRead same (state_of self.old) (state_of self.new)) }
         ensures found { OnOk result (IfTold (state_of self.old) (λ t. IsSome (t.shelf name.now))) }
         ensures steady { IsSteady (state_of self.old) → OnErr result (IsTold (state_of self.old) (λ t. IsNone (t.shelf name.now))) }
-        ensures no_end { OnErr result ((state_of self.new).ends ≡ (state_of self.old).ends) }
+        ensures no_end { OnErr result ((state_of self.new).ended ≡ (state_of self.old).ended) }
+        // Each call counts itself.
         ensures counted { plan_of self.new ≡ counted (plan_of self.old) }
+        // It fails iff the plan says so or there is no such file.
         ensures fails { IsErr result ↔ (IsTrue (is_failing (plan_of self.old)) ⊎ IsTold (state_of self.old) (λ t. IsNone (t.shelf name.now))) }
     {
         if !self.fault_plan.is_failing()
             && let Some(file) = find(self.shelf.as_slice(), name)
         {
             self.reading[slot as usize] = Some(Reading { file, place: 0 });
+            self.over[slot as usize] = false;
             return Ok(());
         }
         Err(self.read_faults.rise())
     }
 
     fn read(&mut self, slot: u8, room: &mut [u8]) -> Result<usize, Failed>
-        requires kind { slot < 4 }
+        requires kind { slot < 5 }
         requires open { IsTrue ((state_of self.old).view.reading slot) }
+        requires not_ended { (state_of self.old).ended slot ≡ false }
         ensures ok { IfOk result (λ count. Reads (taken slot count) (state_of self.old) (state_of self.new)) }
         ensures failed { OnErr result (FailsToRead same (state_of self.old) (state_of self.new)) }
         ensures count { IfOk result (λ count. count ≤ length room.new) }
         ensures bytes { IfOk result (λ count. IfTold (state_of self.old) (λ t. Gives (t.left slot) count room.new)) }
         ensures steady { IsSteady (state_of self.old) → OnErr result ⊥ }
-        ensures at_end { IfOk result (λ count. count ≡ 0 → Rose (state_of self.old).ends (state_of self.new).ends) }
-        ensures not_at_end { IfOk result (λ count. 0 < count → (state_of self.new).ends ≡ (state_of self.old).ends) }
-        ensures no_end { OnErr result ((state_of self.new).ends ≡ (state_of self.old).ends) }
+        ensures ended { IfOk result (λ count. (state_of self.new).ended ≡ put (state_of self.old).ended slot (count == 0)) }
+        ensures no_end { OnErr result ((state_of self.new).ended ≡ (state_of self.old).ended) }
         ensures counted { plan_of self.new ≡ counted (plan_of self.old) }
+        // It fails iff the plan says so.
         ensures fails { IsErr result ↔ IsTrue (is_failing (plan_of self.old)) }
+        // It moves at most as many bytes as a call may.
         ensures moved { IfOk result (λ count. count ≤ (plan_of self.old).piece) }
         ensures behind { IfOk result (λ count. drop count room.new ≡ drop count room.old) }
         ensures untouched { OnErr result (room.new ≡ room.old) }
@@ -186,7 +203,7 @@ impl Desk for MemoryDesk {
             file: reading.file,
             place: reading.place + count,
         });
-        self.ends.rise_if(count == 0);
+        self.over[slot as usize] = count == 0;
         Ok(count)
     }
 
@@ -198,6 +215,7 @@ impl Desk for MemoryDesk {
         ensures fresh { OnOk result (IfTold (state_of self.old) (λ t. HasName name.now t.made → ⊥)) }
         ensures steady { IsSteady (state_of self.old) → OnErr result (IsTold (state_of self.old) (λ t. IsTaken slot name.now t.made)) }
         ensures counted { plan_of self.new ≡ counted (plan_of self.old) }
+        // It fails iff the plan says so, the name or the slot was used, or the name has more than 255 bytes.
         ensures fails { IsErr result ↔ (IsTrue (is_failing (plan_of self.old)) ⊎ IsTold (state_of self.old) (λ t. IsTaken slot name.now t.made)) }
     {
         let is_taken = self.zero.has_name(name)
@@ -224,7 +242,9 @@ impl Desk for MemoryDesk {
         ensures count { IfOk result (TakesSome piece.now) }
         ensures steady { IsSteady (state_of self.old) → OnErr result (LacksRoom (written slot) 1 (state_of self.old)) }
         ensures counted { plan_of self.new ≡ counted (plan_of self.old) }
+        // It fails iff the plan says so or there is no room for a byte.
         ensures fails { IsErr result ↔ (IsTrue (is_failing (plan_of self.old)) ⊎ LacksRoom (written slot) 1 (state_of self.old)) }
+        // It moves at most as many bytes as a call may.
         ensures moved { IfOk result (λ count. count ≤ (plan_of self.old).piece) }
     {
         let is_full = self.memory_file(slot).bytes.is_full();
@@ -246,6 +266,7 @@ impl Desk for MemoryDesk {
         ensures failed { OnErr result (FailsToWrite same (state_of self.old) (state_of self.new)) }
         ensures steady { IsSteady (state_of self.old) → OnErr result ⊥ }
         ensures counted { plan_of self.new ≡ counted (plan_of self.old) }
+        // It fails iff the plan says so.
         ensures fails { IsErr result ↔ IsTrue (is_failing (plan_of self.old)) }
     {
         if self.fault_plan.is_failing() {
@@ -265,7 +286,9 @@ impl Desk for MemoryDesk {
         ensures count { IfOk result (TakesSome piece.now) }
         ensures steady { IsSteady (state_of self.old) → OnErr result (LacksRoom words 1 (state_of self.old)) }
         ensures counted { plan_of self.new ≡ counted (plan_of self.old) }
+        // It fails iff the plan says so or there is no room for a byte.
         ensures fails { IsErr result ↔ (IsTrue (is_failing (plan_of self.old)) ⊎ LacksRoom words 1 (state_of self.old)) }
+        // It moves at most as many bytes as a call may.
         ensures moved { IfOk result (λ count. count ≤ (plan_of self.old).piece) }
     {
         if self.fault_plan.is_failing() || self.said.is_full() {

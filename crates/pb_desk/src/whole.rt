@@ -1,7 +1,6 @@
 // Calls over a desk that go on until all is done.
-ghost use Rattle.std.specs.Prelude.{◌≡◌, ◌≤◌, ◌<◌, ◌≢◌, ℕ, length, IsTrue, IfOk, OnOk, OnErr};
-ghost use Rattle.pb_base.specs.FaultCounts.{Rose};
-ghost use Rattle.pb_desk.specs.View.{wrote, spoke, taken};
+ghost use Rattle.std.specs.Prelude.{◌≡◌, ◌≤◌, ◌<◌, ◌≢◌, ℕ, length, true, false, IsTrue, IfOk, OnOk, OnErr};
+ghost use Rattle.pb_desk.specs.View.{put, wrote, spoke, taken};
 ghost use Rattle.pb_desk.specs.Desk.{Reaches, IsSteady, IfTold, LacksRoom, written, words, StopsIn, Advances, FailsToRead};
 
 use crate::Desk;
@@ -61,8 +60,9 @@ fn read_pieces<D: Desk>(
     limit: u64,
     room: &mut [u8],
 ) -> Result<Bytes, TextFault>
-    requires kind { slot < 4 }
+    requires kind { slot < 5 }
     requires open { IsTrue ((D.state desk.old).view.reading slot) }
+    requires not_ended { (D.state desk.old).ended slot ≡ false }
     requires some_room { 0 < length room.old }
     ensures taken { IfOk result (λ text. Advances slot (length text) (D.state desk.old) (D.state desk.new)) }
     ensures whole { IfOk result (λ text. IfTold (D.state desk.old) (λ t. text ≡ t.left slot)) }
@@ -71,8 +71,8 @@ fn read_pieces<D: Desk>(
     ensures failed { result ≡ Err TextFault.Failed → (count : ℕ) × (count ≤ limit) × FailsToRead (taken slot count) (D.state desk.old) (D.state desk.new) }
     ensures no_memory { result ≡ Err TextFault.NoMemory → (count : ℕ) × (count ≤ limit) × Advances slot count (D.state desk.old) (D.state desk.new) }
     ensures steady { IsSteady (D.state desk.old) → result ≢ Err TextFault.Failed }
-    ensures once { OnOk result (Rose (D.state desk.old).ends (D.state desk.new).ends) }
-    ensures before_end { OnErr result ((D.state desk.new).ends ≡ (D.state desk.old).ends) }
+    ensures ended { OnOk result ((D.state desk.new).ended ≡ put (D.state desk.old).ended slot true) }
+    ensures before_end { OnErr result ((D.state desk.new).ended ≡ (D.state desk.old).ended) }
 {
     let mut text = Vec::new(alloc);
     loop {
@@ -95,17 +95,27 @@ pub fn read_whole<D: Desk>(
     slot: u8,
     limit: u64,
 ) -> Result<Bytes, TextFault>
-    requires kind { slot < 4 }
+    requires kind { slot < 5 }
     requires open { IsTrue ((D.state desk.old).view.reading slot) }
+    requires not_ended { (D.state desk.old).ended slot ≡ false }
+    // On success as many bytes were read from the slot as the text has.
     ensures taken { IfOk result (λ text. Advances slot (length text) (D.state desk.old) (D.state desk.new)) }
+    // On a visible desk the text is all that the slot had.
     ensures whole { IfOk result (λ text. IfTold (D.state desk.old) (λ t. text ≡ t.left slot)) }
+    // The text is within the limit.
     ensures in_limit { IfOk result (λ text. length text ≤ limit) }
+    // `TooLong` is answered only after more bytes than the limit.
     ensures too_long { result ≡ Err TextFault.TooLong → (count : ℕ) × (limit < count) × Advances slot count (D.state desk.old) (D.state desk.new) }
+    // A failed read is answered only if the count of failed reads rose, after bytes within the limit.
     ensures failed { result ≡ Err TextFault.Failed → (count : ℕ) × (count ≤ limit) × FailsToRead (taken slot count) (D.state desk.old) (D.state desk.new) }
+    // `NoMemory` comes after bytes within the limit, and no call failed.
     ensures no_memory { result ≡ Err TextFault.NoMemory → (count : ℕ) × (count ≤ limit) × Advances slot count (D.state desk.old) (D.state desk.new) }
+    // On a steady desk no read fails.
     ensures steady { IsSteady (D.state desk.old) → result ≢ Err TextFault.Failed }
-    ensures once { OnOk result (Rose (D.state desk.old).ends (D.state desk.new).ends) }
-    ensures before_end { OnErr result ((D.state desk.new).ends ≡ (D.state desk.old).ends) }
+    // On success the end of the slot was met.
+    ensures ended { OnOk result ((D.state desk.new).ended ≡ put (D.state desk.old).ended slot true) }
+    // On failure no end was met.
+    ensures before_end { OnErr result ((D.state desk.new).ended ≡ (D.state desk.old).ended) }
 {
     let mut room = make_room(alloc)?;
     read_pieces(alloc, desk, slot, limit, &mut room)
@@ -115,8 +125,11 @@ pub fn read_whole<D: Desk>(
 pub fn write_all<D: Desk>(desk: &mut D, slot: u8, bytes: &[u8]) -> Result<(), Failed>
     requires kind { slot < 2 }
     requires open { IsTrue ((D.state desk.old).view.writing slot) }
+    // On success all bytes were appended.
     ensures ok { OnOk result (Reaches (wrote slot bytes.now) (D.state desk.old) (D.state desk.new)) }
+    // On failure a first part was, and the count of failed writes rose.
     ensures failed { OnErr result (StopsIn bytes.now (wrote slot) (D.state desk.old) (D.state desk.new)) }
+    // On a steady desk it fails only if there is no room for all.
     ensures steady { IsSteady (D.state desk.old) → OnErr result (LacksRoom (written slot) (length bytes.now) (D.state desk.old)) }
 {
     let mut at = 0;
@@ -128,8 +141,11 @@ pub fn write_all<D: Desk>(desk: &mut D, slot: u8, bytes: &[u8]) -> Result<(), Fa
 
 /// Says all the bytes, or a first part where that fails.
 pub fn say_all<D: Desk>(desk: &mut D, bytes: &[u8]) -> Result<(), Failed>
+    // On success all bytes were printed.
     ensures ok { OnOk result (Reaches (spoke bytes.now) (D.state desk.old) (D.state desk.new)) }
+    // On failure a first part was, and the count of failed writes rose.
     ensures failed { OnErr result (StopsIn bytes.now spoke (D.state desk.old) (D.state desk.new)) }
+    // On a steady desk it fails only if there is no room for all.
     ensures steady { IsSteady (D.state desk.old) → OnErr result (LacksRoom words (length bytes.now) (D.state desk.old)) }
 {
     let mut at = 0;

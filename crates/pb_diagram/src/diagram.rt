@@ -56,10 +56,15 @@ impl Diagram {
     pub fn build(alloc: Global, of: &AtMost, budget: u64) -> Result<Built<Diagram>, NoMemory>
         requires light { weight of.now.terms < 2 ^ 100 }
         requires modest { budget < 2 ^ 31 }
+        // The budget is passed iff the nodes are more.
         ensures over { IfOk result (λ built. IsOverExactly (diagram_fresh of.now) budget built) }
+        // The family is of this sum.
         ensures constraint { IfOk result (λ built. IfFits (λ t. ⟦<Diagram as Family>⟧.constraint t ≡ of.now) built) }
+        // The number of fresh variables is the defined one.
         ensures fresh { IfOk result (λ built. IfFits (λ t. ⟦<Diagram as Family>⟧.fresh_count t ≡ diagram_fresh of.now) built) }
+        // The number of clauses is the defined one.
         ensures clauses { IfOk result (λ built. IfFits (λ t. ⟦<Diagram as Family>⟧.clause_count t ≡ diagram_size of.now) built) }
+        // The clauses are those of the interval diagram.
         ensures list { IfOk result (λ built. IfFits (λ t. (first : ℕ) → ⟦<Diagram as Family>⟧.clause_list t first ≡ diagram_clauses of.now first) built) }
     {
         match known_levels(alloc, of, budget)? {

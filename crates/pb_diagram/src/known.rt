@@ -1,4 +1,12 @@
 //! The nodes of a level that are known.
+//!
+//! A level's nodes are in runs of at most 63, each from its last node to its first, since a search meets the residues of a level from
+//! above. So a new node moves 7 others if a level has hundreds, and 21 if it has thousands. One list for a level took less time with
+//! hundreds of nodes, and twice as much with thousands; a map took a fifth to a quarter more.
+//!
+//! A residue's run is found by binary search, then its index in it: once to look the node up, once to insert it. To keep both from
+//! the first search saved a sixth of the time with hundreds of nodes a level or more, and nothing with few (counted in a copy in
+//! Rust). It would cost six functions, and an argument of nine more.
 ghost use Rattle.std.specs.Prelude.{◌≡◌, ◌≤◌, ◌<◌, ◌⊎◌, [], length, Contains, IfOk, OnOk};
 ghost use Rattle.pb_diagram.specs.declared.interval.Interval.{Interval};
 ghost use Rattle.pb_diagram.specs.inner.Known.{AreRuns, IsRunOf, intervals_in};

@@ -1,12 +1,12 @@
 //! What the definitions of a diagram mean.
 ghost use Rattle.pb_diagram.specs.Intervals.{ChildrenAreOfNodes, NodesAreIntervals};
 
-/// The nodes of each level are the different intervals of the residues there, in order.
+/// The law that the nodes of each level are the different intervals of the residues there, in order.
 pub fn nodes_are_intervals()
     ensures { NodesAreIntervals }
 {}
 
-/// The children of a node are the same for each residue in its interval.
+/// The law that the children of a node are the same for each residue in its interval.
 pub fn children_are_of_nodes()
     ensures { ChildrenAreOfNodes }
 {}

@@ -1,4 +1,7 @@
-//! A level beside the next one.
+//! A level with the next one.
+//!
+//! A node's clauses name its children by their index. Children of nodes in order are in order too, so each is looked for at the index
+//! of the last node's child and at the one after it, and by binary search only if it is at neither.
 ghost use Rattle.std.specs.Prelude.{◌≡◌, All};
 ghost use Rattle.pb_norm.specs.Constraints.{weight, weighted, weights};
 ghost use Rattle.pb_diagram.specs.inner.Links.{AreInOrder, HasChildren};

@@ -1,5 +1,8 @@
 //! The search for the nodes of a diagram: from the bound down to the children that are not known yet, and up again with the
 //! intervals that they give.
+//!
+//! While the true child of a node is searched for, the false child's interval is kept, and a new node is given to its parent. So a
+//! node is looked up twice at most.
 ghost use Rattle.std.specs.Prelude.{[], replicate, ◌≡◌, ◌<◌, ◌+◌, ◌-◌, ◌^◌, Contains, MatchOption, IfSome, IfOk, length, sum};
 ghost use Rattle.pb_norm.specs.Constraints.{weight};
 ghost use Rattle.pb_diagram.specs.declared.interval.Interval.{Interval};

@@ -5,7 +5,6 @@ use Rattle.pb_base.specs.declared.fault.Failed.{Failed}
 use Rattle.pb_desk.specs.Desk.{DeskState}
 use Rattle.pb_family.specs.Sinks.{SinkState, Grows, Takes, FailsToTake}
 use Rattle.pb_family.specs.Handing.{HandsText}
-use Rattle.pb_family.specs.declared.sink.SinkFault.TheVariants as fault
 use Rattle.pb_dimacs.specs.Outboxes.{hard_sink, slot_sink}
 use Rattle.pb_dimacs.specs.inner.WriteBufferSinks.{shown}
 use Rattle.pb_dimacs.proofs.Holding.{named_hands}

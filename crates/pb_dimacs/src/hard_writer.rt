@@ -1,4 +1,7 @@
 //! A slot of a desk that takes a weighted CNF.
+//!
+//! The lines with the offset and the soft literals are calls of the writer too, so that all lines of the file go through one buffer
+//! in their order.
 ghost use Rattle.std.specs.Prelude.{◌≡◌, ◌<◌, [], IsTrue, OnOk};
 ghost use Rattle.std.specs.Fmt.{signed_decimal};
 ghost use Rattle.pb_family.specs.Handing.{HandsText};
@@ -44,6 +47,7 @@ impl<'a, D: Desk> HardWriter<'a, D> {
     pub fn new(desk: &'a mut D, slot: u8, outbox: &'a mut WriteBuffer) -> HardWriter<'a, D>
         requires kind { slot < 2 }
         requires open { IsTrue ((D.state desk.old).view.writing slot) }
+        // The writer's text begins with what its buffer holds, and each clause has `h ` before it.
         ensures { ⟦<HardWriter<'a, D> as ClauseSink>⟧.state result ≡ hard_sink desk.entry.ghost_name slot (held_in outbox.old) (D.state desk.old) }
     {
         HardWriter { desk, slot, outbox }
@@ -72,6 +76,7 @@ impl<'a, D: Desk> HardWriter<'a, D> {
 
     /// Takes the comment with the offset, to which the costs of soft lines are added.
     pub fn offset(&mut self, offset: i128) -> Result<(), Failed>
+        // The comment with the offset was written, or a first part of it until the desk failed.
         ensures { let seen = ⟦<HardWriter<'a, D> as ClauseSink>⟧.state in HandsText (offset_text offset) result (seen self.old) (seen self.new) }
     {
         self.put(b"c offset ")?;
@@ -81,6 +86,7 @@ impl<'a, D: Desk> HardWriter<'a, D> {
 
     /// Takes a soft line: that the literal costs the weight where it is false.
     pub fn soft(&mut self, weight: i128, lit: Lit) -> Result<(), Failed>
+        // The soft line was written, or a first part of it until the desk failed.
         ensures { let seen = ⟦<HardWriter<'a, D> as ClauseSink>⟧.state in HandsText (soft_text weight lit) result (seen self.old) (seen self.new) }
     {
         self.put_number(weight)?;
@@ -90,7 +96,9 @@ impl<'a, D: Desk> HardWriter<'a, D> {
 
     /// Writes all that is held.
     pub fn flush(&mut self) -> Result<(), Failed>
+        // No text was added.
         ensures taken { let seen = ⟦<HardWriter<'a, D> as ClauseSink>⟧.state in HandsText [] result (seen self.old) (seen self.new) }
+        // On success all that was accepted is in the file.
         ensures all_sent { OnOk result (IsAllSent (⟦<HardWriter<'a, D> as ClauseSink>⟧.state self.new)) }
     {
         flush(self.desk, self.slot, self.outbox)
@@ -99,6 +107,7 @@ impl<'a, D: Desk> HardWriter<'a, D> {
     /// What is still to be done after a fault of handing over: where memory was wanting all that is held is written, whatever comes
     /// of that. Where the desk has failed nothing is tried again.
     pub fn settle(&mut self, fault: SinkFault)
+        // After `NoMemory` all that was accepted is in the file, or one more write failed; after a failed write nothing is tried again.
         ensures { let seen = ⟦<HardWriter<'a, D> as ClauseSink>⟧.state in Settles fault (seen self.old) (seen self.new) }
     {
         match fault {

@@ -1,4 +1,8 @@
 //! A slot of a desk that takes steps of a derivation.
+//!
+//! Each line is made in a vector that is used again, and then copied to the buffer by small pieces. So `NoMemory` comes before any of
+//! a line is accepted. The caller lends the vector: a writer with one of its own would be dropped by code that gives memory back,
+//! after which nothing would be known of the desk.
 ghost use Rattle.std.specs.Prelude.{◌≡◌, ◌<◌, ◌^◌, ◌∷◌, [], Err, IsTrue, OnOk};
 ghost use Rattle.pb_family.specs.Handing.{HandsText};
 ghost use Rattle.pb_family.specs.StepSinks.{HandsSteps};
@@ -69,7 +73,9 @@ impl<'a, D: Desk> StepWriter<'a, D> {
     ) -> StepWriter<'a, D>
         requires kind { slot < 2 }
         requires open { IsTrue ((D.state desk.old).view.writing slot) }
+        // The writer's text begins with what its buffer holds.
         ensures sink { (⟦<StepWriter<'a, D> as StepSink>⟧.state result).sink ≡ slot_sink desk.entry.ghost_name slot (held_in outbox.old) (D.state desk.old) }
+        // The first step that takes an id gets the given one.
         ensures next { (⟦<StepWriter<'a, D> as StepSink>⟧.state result).next ≡ next }
     {
         StepWriter {
@@ -84,8 +90,11 @@ impl<'a, D: Desk> StepWriter<'a, D> {
 
     /// Writes all that is held.
     pub fn flush(&mut self) -> Result<(), Failed>
+        // No text was added.
         ensures taken { let seen = ⟦<StepWriter<'a, D> as StepSink>⟧.state in HandsText [] result (seen self.old).sink (seen self.new).sink }
+        // On success all that was accepted is in the file.
         ensures all_sent { OnOk result (IsAllSent ((⟦<StepWriter<'a, D> as StepSink>⟧.state self.new).sink)) }
+        // The next id is as it was.
         ensures next { let seen = ⟦<StepWriter<'a, D> as StepSink>⟧.state in (seen self.new).next ≡ (seen self.old).next }
     {
         flush(self.desk, self.slot, self.outbox)
@@ -94,6 +103,7 @@ impl<'a, D: Desk> StepWriter<'a, D> {
     /// What is still to be done after a fault of handing over: where memory was wanting all that is held is written, whatever comes
     /// of that. Where the desk has failed nothing is tried again.
     pub fn settle(&mut self, fault: SinkFault)
+        // After `NoMemory` all that was accepted is in the file, or one more write failed; after a failed write nothing is tried again.
         ensures { let seen = ⟦<StepWriter<'a, D> as StepSink>⟧.state in Settles fault (seen self.old).sink (seen self.new).sink }
     {
         match fault {

@@ -1,4 +1,6 @@
 -- What the rows of a table of bounds say of a problem. Our own.
+-- What a row forces is said of assignments, that the objective's sum is below the row's value. The loaded half of that statement
+-- holds exactly then, so its normal form would add nothing; and propagation is that over clauses, as `probe` shows it.
 use Rattle.std.specs.Prelude.{◌≡◌, ◌≤◌, ◌+ℤ◌, ◌<ℤ◌, ◌↔◌, ℕ, ℤ, pos, Bool, false, List, length, map, take, All, Contains}
 use Rattle.pb_base.specs.declared.literal.Lit.{Lit}
 use Rattle.pb_base.specs.declared.problem.Problem.{Problem}

@@ -1,4 +1,7 @@
 -- The objective of a problem as an offset and costs of literals: the normal form of its sum (after Eén and Sörensson 2006).
+-- The objective is brought to normal form as a half that is never reached, `objective >= 2^100`. Its degree is then above 0, so
+-- nothing is cut off, and 2^100 less the degree is the offset, the value if no literal costs anything. Products, equal variables and
+-- opposite literals are added up as in statements.
 use Rattle.std.specs.Prelude.{◌≡◌, ◌^◌, ℕ, cond, List, map, sum_by, ℤ, pos, ◌+ℤ◌, ◌-ℤ◌}
 use Rattle.pb_base.specs.declared.problem.Problem.{Problem}
 use Rattle.pb_base.specs.Literals.{Assignment, lit_value}

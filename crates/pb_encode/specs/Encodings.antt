@@ -40,7 +40,7 @@ pub data LacksToMake (slot : ℕ) (name text : List ℕ) (desk : DeskState) : Ty
   is_taken : IsTold desk (λ t. IsTaken slot name t.made) → LacksToMake slot name text desk
   no_room : IsSomeAnd desk.view.room (λ most. most < length text) → LacksToMake slot name text desk
 
--- Memory was wanting once the file held a first part of the text. What was held is written then; where that failed too, a steady desk lacks something to make the file.
+-- Memory ran out once the file had a first part of the text, and no write failed; or one did, over a steady desk because something is missing to make the file.
 pub data LeavesPart (slot : ℕ) (name text : List ℕ) (old new : DeskState) : Type 0 where
   left : (count : ℕ) → Reaches (begun slot name (take count text)) old new → LeavesPart slot name text old new
   cut_off : (count : ℕ) → FailsToWrite (begun slot name (take count text)) old new → (IsSteady old → LacksToMake slot name text old) → LeavesPart slot name text old new

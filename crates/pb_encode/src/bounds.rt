@@ -94,6 +94,7 @@ pub fn bound_rows(
     requires within { IsWithinLimits problem.now }
     requires encodable { IsEncodable options.now problem.now }
     requires summary { summary.now ≡ summary_of options.now problem.now }
+    // The rows are those of the table of bounds on the objective, by ascending values, and none if no table is requested.
     ensures { IfOk result (λ rows. rows.items ≡ bound_rows options.now problem.now) }
 {
     let Some(first) = summary.table else {
@@ -115,6 +116,7 @@ pub fn words_of(
     requires within { IsWithinLimits problem.now }
     requires encodable { IsEncodable options.now problem.now }
     requires summary { summary.now ≡ summary_of options.now problem.now }
+    // The text is the two lines of the summary and a line for each row of the table.
     ensures { IfOk result (λ text. text.items ≡ words_of options.now problem.now) }
 {
     let mut text = summary_text(alloc, summary)?;

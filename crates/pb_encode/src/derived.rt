@@ -8,13 +8,15 @@ ghost use Rattle.pb_encode.specs.Derived.{IsDerived};
 ghost use Rattle.pb_encode.specs.Encodings.{problem_text};
 ghost use Rattle.pb_encode.specs.Summaries.{IsEncodable};
 
-/// The law that the steps of a problem derive its clauses from the loaded constraints, that they are few, and that their text is
-/// within the limits.
+/// The law that the steps of an encoded problem are allowed in turn over the loaded constraints and put out exactly its clauses. With the
+/// lines around them they are at most 8 * (fresh + clauses) + 4 * (loaded constraints) + 8; lines can say them, and their text is within
+/// the limits of a text.
 pub fn steps_derive_the_clauses()
     ensures { (o : Options) (p : Problem) → IsWithinLimits p → IsEncodable o p → IsDerived o p }
 {}
 
-/// The law that the CNF text of a problem tells a reader the problem's variables and clauses: no line of it is too long, nor is it all.
+/// The law that the CNF text of an encoded problem is read as its number of variables and exactly its clauses; so neither a line nor the
+/// text is too long.
 pub fn cnf_tells_the_clauses()
     ensures { (o : Options) (p : Problem) → IsWithinLimits p → IsEncodable o p → Tells (problem_text o p) (problem_vars o p) (problem_clauses o p) }
 {}

@@ -1,4 +1,8 @@
 //! What is encoded: a problem, the options, and what is told of its groups.
+//!
+//! The problem, the options and the hints go through all passes together. That the problem is within its limits, that its encoding
+//! passes none, and that the hints are right for its groups are facts of the type, so no pass requires them; the public calls, whose
+//! conditions are apart, make it.
 ghost use Rattle.std.proofs.Props.{props};
 ghost use Rattle.pb_base.specs.Problems.{IsWithinLimits};
 ghost use Rattle.pb_encode.specs.Groups.{groups_of};

@@ -1,4 +1,7 @@
 //! A problem's files: the CNF, and the derivation of its clauses.
+//!
+//! The names of the files are borrowed: the words of the command line lend them, and the desk takes them as they are. Contracts see
+//! them as values (`names_of`).
 ghost use Rattle.std.specs.Prelude.{◌≡◌, false, Err, OnOk, IfOk, IsSome};
 ghost use Rattle.pb_base.specs.declared.limit.LimitKind.{LimitKind};
 ghost use Rattle.pb_base.specs.Problems.{IsWithinLimits};
@@ -93,13 +96,23 @@ pub fn encode<D: Desk>(
     requires free { (D.state desk.old).view.writing 0 ≡ false }
     requires free_proof { IsSome names.now.proof → (D.state desk.old).view.writing 1 ≡ false }
 
+    // On success the answer is the problem's summary.
     ensures summary { IfOk result (λ summary. summary ≡ summary_of options.now problem.now) }
+    // On success the encoding passes no limit.
     ensures encodable { OnOk result (IsEncodable options.now problem.now) }
+    // On success the CNF file was made in slot 0, and then the derivation's in slot 1 if it is named; each holds exactly its text and is
+    // closed.
     ensures made { OnOk result (Reaches (made_files options.now problem.now (names_of names.now)) (D.state desk.old) (D.state desk.new)) }
 
+    // A limit is answered only if it is the first that the encoding passes, and nothing was made.
     ensures limit { (k : LimitKind) → result ≡ Err (EncodeFault.Limit k) → Refuses k options.now problem.now (D.state desk.old) (D.state desk.new) }
+    // After a write fault nothing was made; or the CNF alone, with a first part of its text; or the whole CNF, and the derivation with a
+    // first part of its text.
     ensures write_fault { result ≡ Err EncodeFault.WriteFault → IsCutOff options.now problem.now (names_of names.now) (D.state desk.old) (D.state desk.new) }
+    // After `NoMemory` nothing was made; or the CNF alone, with a first part of its text; or the whole CNF, and the derivation with a
+    // first part. At most one write failed, once a file was made.
     ensures no_memory { result ≡ Err EncodeFault.NoMemory → WantsMemory options.now problem.now (names_of names.now) (D.state desk.old) (D.state desk.new) }
+    // On a steady desk a write fails only if a name or slot is in use, a name is too long, the names are equal, or room is missing.
     ensures steady { IsSteady (D.state desk.old) → result ≡ Err EncodeFault.WriteFault → Lacks options.now problem.now (names_of names.now) (D.state desk.old) }
 {
     let mut hints = Hints::new(alloc);

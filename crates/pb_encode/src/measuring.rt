@@ -140,8 +140,12 @@ pub fn measure_telling(
 /// The size of a problem's encoding.
 pub fn measure(alloc: Global, problem: &Problem, options: &Options) -> Result<Summary, MeasureFault>
     requires within { IsWithinLimits problem.now }
+    // On success the answer is the problem's summary: its numbers of variables and clauses, those of its treatments, and the table's
+    // first fresh variable if there is one.
     ensures summary { IfOk result (λ summary. summary ≡ summary_of options.now problem.now) }
+    // On success the encoding passes no limit.
     ensures encodable { OnOk result (IsEncodable options.now problem.now) }
+    // A limit is answered only if the encoding passes it and none before it: `Bounds`, then `Variables`, then `Clauses`.
     ensures limit { (which : LimitKind) → result ≡ Err (MeasureFault.Limit which) → IsOver which options.now problem.now }
 {
     let mut hints = Hints::new(alloc);

@@ -12,7 +12,8 @@ ghost use Rattle.pb_encode.specs.Apart.{AreApart};
 
 use pb_base::EqualMode;
 
-/// The law that the clauses of a problem have its solutions, under any options.
+/// The law that values of the problem's variables are a solution iff they are the restriction of a model of its clauses, under any
+/// options.
 pub fn clauses_have_the_solutions()
     ensures { (o : Options) (p : Problem) → IsWithinLimits p → HasSolutionsOf p (problem_vars o p) (problem_clauses o p) }
 {}
@@ -22,21 +23,22 @@ pub fn groups_have_the_constraints()
     ensures { (p : Problem) → all_members (groups_of p) ≡ loaded_of p }
 {}
 
-/// The law that unit propagation over all of them reaches what each loaded constraint forces, or a conflict, but for the
-/// constraints that are sent to the adder; and of an equality that is encoded as one what both halves force together, and each output
-/// of its totalizer that the leaves decide.
+/// The law that propagation over all clauses reaches what each loaded constraint forces that is not sent to the adder, or a conflict. Of
+/// an equality that is encoded as one it also reaches what both halves force together, and each output of its totalizer that the leaves
+/// decide.
 pub fn clauses_force_what_constraints_do()
     ensures { (o : Options) (p : Problem) → IsWithinLimits p → ForceEach o (problem_clauses o p) (originals p + 1) (groups_of p) }
 {}
 
-/// The law that where equalities are encoded half by half, the clauses and counts before those of a table are those of all loaded
+/// The law that if equalities are encoded half by half, the clauses and counts before those of a table of bounds are those of all loaded
 /// constraints, one after another.
 pub fn equalities_stand_apart()
     ensures { (o : Options) (p : Problem) → o.equal ≡ EqualMode.Split → AreApart o p }
 {}
 
-/// The law that the rows of a problem's table of bounds have exactly the values that the offset and one or more costs add up to, and
-/// that in models a row's literal is false exactly where the objective is less than its value.
+/// The law that the values of a table's rows ascend, and are exactly the offset plus each sum of one or more costs. The models in which a
+/// row's literal is false have as restrictions exactly the solutions whose objective is below the row's value. From the literal's
+/// negation propagation reaches what that forces, or a conflict.
 pub fn rows_bound_the_objective()
     ensures { (o : Options) (p : Problem) → IsWithinLimits p → o.table ≡ true → TellBounds p (problem_vars o p) (problem_clauses o p) (bound_rows o p) }
 {}

@@ -24,6 +24,7 @@ fn objective_of(problem: &Problem) -> &[Term]
 /// the degree is told by `offset_by`. `NoMemory` is the only fault.
 pub fn objective_form(alloc: Global, problem: &Problem) -> Result<Linear, NoMemory>
     requires { IsWithinLimits problem.now }
+    // The constraint is the objective in normal form, as a half that is never reached.
     ensures { IfOk result (λ form. form ≡ objective_form problem.now) }
 {
     written(alloc, objective_of(problem), FAR)
@@ -31,6 +32,7 @@ pub fn objective_form(alloc: Global, problem: &Problem) -> Result<Linear, NoMemo
 
 /// What the costs are added to, given the objective in normal form.
 pub fn offset_by(objective: &Linear) -> i128
+    // The number is what the costs are added to: 2^100 less the degree of the objective's normal form.
     ensures { result ≡ pos (2 ^ 100) -ℤ pos objective.now.degree }
 {
     FAR - objective.degree() as i128

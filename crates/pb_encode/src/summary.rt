@@ -109,6 +109,8 @@ fn push_treatments(out: &mut Vec<u8>, treatments: &Treatments) -> Result<(), All
 /// The two lines that are said of an encoding.
 pub fn summary_text(alloc: Global, summary: &Summary) -> Result<Vec<u8>, AllocError>
     requires { summary.now.original + summary.now.products ≤ summary.now.vars }
+    // The text is the two lines of a summary, the number of products at the end of the first if there is one, and of halves encoded as
+    // one at the end of the second.
     ensures { IfOk result (λ text. text.items ≡ summary_text summary.now) }
 {
     let mut text = Vec::new(alloc);

@@ -118,13 +118,20 @@ pub fn weighted<D: Desk>(
     requires within { IsWithinLimits problem.now }
     requires free { (D.state desk.old).view.writing 0 ≡ false }
 
+    // On success the answer is the problem's summary, of the hard clauses alone.
     ensures summary { IfOk result (λ summary. summary ≡ summary_of options.now problem.now) }
+    // On success the encoding passes no limit.
     ensures encodable { OnOk result (IsEncodable options.now problem.now) }
+    // On success the file was made in slot 0, holds exactly the weighted CNF text, and is closed.
     ensures made { OnOk result (Reaches (made 0 name.now (weighted_text options.now problem.now)) (D.state desk.old) (D.state desk.new)) }
 
+    // A limit is answered only if it is the first that the encoding passes, and nothing was made.
     ensures limit { (k : LimitKind) → result ≡ Err (EncodeFault.Limit k) → Refuses k options.now problem.now (D.state desk.old) (D.state desk.new) }
+    // After a write fault nothing was made, or the file with a first part of its text.
     ensures write_fault { result ≡ Err EncodeFault.WriteFault → IsWeightedCutOff options.now problem.now name.now (D.state desk.old) (D.state desk.new) }
+    // After `NoMemory` nothing was made, or the file with a first part of its text. At most one write failed, once it was made.
     ensures no_memory { result ≡ Err EncodeFault.NoMemory → WantsForWeighted options.now problem.now name.now (D.state desk.old) (D.state desk.new) }
+    // On a steady desk a write fails only if the name or the slot is in use, the name is too long, or room is missing.
     ensures steady { IsSteady (D.state desk.old) → result ≡ Err EncodeFault.WriteFault → LacksForWeighted options.now problem.now name.now (D.state desk.old) }
 {
     let mut hints = Hints::new(alloc);
@@ -140,17 +147,20 @@ pub fn weighted<D: Desk>(
     Ok(summary)
 }
 
-/// The law that the value of a problem's objective is its offset and what the false soft literals cost.
+/// The law that the value of a problem's objective is its offset and the weights of the soft literals that are false, added up, under any
+/// assignment.
 pub fn costs_add_up()
     ensures { CostsAddUp }
 {}
 
-/// The law that the models of the hard clauses are the solutions of a problem, and have its objective's values as their costs.
+/// The law that the models of the hard clauses, restricted, are the problem's solutions, and under each the objective is the offset plus
+/// the weights of the false soft literals.
 pub fn hard_clauses_have_the_costs()
     ensures { (o : Options) (p : Problem) → IsWithinLimits p → HasCostsOf o p }
 {}
 
-/// The law that the weighted CNF text of a problem says its clauses, as hard ones, and a soft literal for each that costs, and nothing else.
+/// The law that the weighted CNF text of an encoded problem says its clauses, as hard ones, and a soft literal for each that costs, and
+/// nothing else.
 pub fn weighted_text_says_the_clauses()
     ensures { (o : Options) (p : Problem) → IsWithinLimits p → IsEncodable o p → WcnfReads (weighted_text o p) (hard_and_soft (problem_clauses o p) (softs_of p)) }
 {}

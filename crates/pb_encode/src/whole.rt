@@ -46,6 +46,7 @@ pub fn hand_clauses<S: ClauseSink>(
 ) -> SinkResult
     requires within { IsWithinLimits problem.now }
     requires encodable { IsEncodable options.now problem.now }
+    // Exactly the problem's clauses were emitted, in order, or a first part of their text until the sink failed or memory ran out.
     ensures { HandsIfMemory (problem_clauses options.now problem.now) result (S.state sink.old) (S.state sink.new) }
 {
     let input = Encodable {
@@ -89,7 +90,9 @@ pub fn stream_clauses<S: ClauseSink>(
 ) -> SinkResult<Counts>
     requires within { IsWithinLimits problem.now }
     requires encodable { IsEncodable options.now problem.now }
+    // The counts are the defined numbers of fresh variables and clauses.
     ensures counts { IfOk result (λ counts. counts ≡ problem_counts options.now problem.now) }
+    // Exactly the problem's clauses were emitted, in order, or a first part of their text until the sink failed or memory ran out.
     ensures hands { HandsIfMemory (problem_clauses options.now problem.now) result (S.state sink.old) (S.state sink.new) }
 {
     let mut hints = Hints::new(alloc);
@@ -137,6 +140,8 @@ pub fn stream_steps<T: StepSink>(
     requires within { IsWithinLimits problem.now }
     requires encodable { IsEncodable options.now problem.now }
     requires next { (T.state sink.old).next ≡ length (loaded_of problem.now) + 1 }
+    // Exactly the steps of the problem's derivation were emitted, from the head line to `end`, or the first ones until the sink failed or
+    // memory ran out.
     ensures { HandsSteps (problem_steps options.now problem.now) result (T.state sink.old) (T.state sink.new) }
 {
     let input = Encodable {

@@ -15,13 +15,13 @@ use Rattle.pb_files.specs.Calls.Call.{open_file, create, truncate, read, write, 
 abbrev pub by_slot : {F X : Type 0} → (Option F → X) → List (Option F) → ℕ → X
 by_slot f slots n = f (slice_index_or slots n None)
 
--- what the desk shows: which slots are open, and its counts
-abbrev pub untold : {F G : Type 0} → List (Option F) → List (Option G) → ℕ → ℕ → ℕ → DeskState
-untold reading writing read_faults write_faults ends = record {
+-- what the desk shows: which slots are open, its counts, and which slots are at their end
+abbrev pub untold : {F G : Type 0} → List (Option F) → List (Option G) → ℕ → ℕ → List Bool → DeskState
+untold reading writing read_faults write_faults over = record {
   view = record { reading = by_slot is_some reading; writing = by_slot is_some writing; told = None; room = None; steady = false };
   read_faults = read_faults;
   write_faults = write_faults;
-  ends = ends;
+  ended = λ slot. slice_index_or over slot false;
 }
 
 -- What it has asked, where calls are kept; the file in each slot; which files it has opened and made, the last of each of
@@ -78,7 +78,7 @@ pub record Makes (slot : ℕ) (name : List ℕ) (old new : Asked) : Type 0 where
   pub file : Handle
   pub unsaid : is_known (old.output ∷ []) file.id ≡ false
   pub unknown : is_known old.known file.id ≡ false
-  pub is : new ≡ record (after (truncate file.number (Some tt)) (after (create name (Some file)) old)) { writing = put old.writing slot (Some file); known = set old.known (4 + slot) file.id }
+  pub is : new ≡ record (after (truncate file.number (Some tt)) (after (create name (Some file)) old)) { writing = put old.writing slot (Some file); known = set old.known (5 + slot) file.id }
 
 -- Why no file is made: the system gives none; it gives what standard output is, or one that the desk knows, which is left
 -- as it is; or it does not empty it.

@@ -1,4 +1,10 @@
-// The system that the program runs on. That std asks it and answers as it did, by these lines, is trusted.
+// The system that the program runs on. That these lines make the right calls of std, and that std answers as the system did, is trusted.
+//
+// Files are in eight fixed places, so nothing here allocates: a run opens at most four texts and makes two files. A place is found
+// before a file is opened or made.
+//
+// A call that was interrupted is made again, and is none of the desk's faults; std does so itself for opening, emptying and syncing.
+// Emptying and syncing may be invalid for a pipe or a device (EINVAL) and then count as done; for a regular file that is a fault.
 use crate::opened::{Opened, id_of};
 use crate::{FileId, Handle, System};
 use pb_base::Failed;

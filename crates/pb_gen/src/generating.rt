@@ -55,6 +55,7 @@ fn push_statement(out: &mut Vec<u8>, draws: &mut Draws, vars: u64) -> Result<(),
 ///
 /// The text is in the format that `pb_opb` reads. Its first line tells both numbers.
 pub fn generate(alloc: Global, n: u32, seed: u32) -> Result<Bytes, NoMemory>
+    // The text is exactly the one that the number of statements and the seed define.
     ensures { IfOk result (λ text. text ≡ generated n seed) }
 {
     let vars = u64::from(n) + 10;

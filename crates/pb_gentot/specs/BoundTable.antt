@@ -1,5 +1,8 @@
 -- Tables of bounds: along a generalized totalizer with no cut (Joshi, Martins and Manquinho 2015), a literal for each value that a
 -- weighted sum can have, whose negation says that the sum is below.
+-- A table over no terms has no variable, clause, step or row. If no table is requested its terms are none, so each definition of a
+-- problem's clauses, derivation and words is one, without cases; a problem without an objective, or with a constant one, has a table
+-- without rows.
 use Rattle.std.specs.Prelude.{◌+◌, ◌-◌, ℕ, ℤ, pos, List, [], ◌∷◌, ◌++◌, length, map}
 use Rattle.pb_base.specs.declared.literal.Lit.{Lit}
 use Rattle.pb_base.specs.Literals.{negated}

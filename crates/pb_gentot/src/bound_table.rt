@@ -86,7 +86,9 @@ impl BoundTable {
         requires distinct { IsOverDistinct (weights terms.now) }
         requires light { weight (weights terms.now) < 2 ^ 100 }
         requires modest { budget < 2 ^ 24 }
+        // The budget is passed iff the fresh variables are more.
         ensures over { IfOk result (λ built. IsOverExactly (table_fresh (weights terms.now)) budget built) }
+        // The table is of these terms.
         ensures terms { IfOk result (λ built. IfFits (λ t. t ≡ weights terms.now) built) }
     {
         let given = terms.as_slice();
@@ -109,6 +111,7 @@ impl BoundTable {
 
     /// How many fresh variables it has.
     pub fn fresh(&self) -> u64
+        // The number of fresh variables is the defined one.
         ensures { result ≡ table_fresh self.now }
     {
         self.fresh
@@ -116,6 +119,7 @@ impl BoundTable {
 
     /// How many clauses it has.
     pub fn clauses(&self) -> u64
+        // The number of clauses is the defined one.
         ensures { result ≡ table_size self.now }
     {
         self.clauses
@@ -123,6 +127,7 @@ impl BoundTable {
 
     /// How many rows it has: one for each value.
     pub fn len(&self) -> u64
+        // There is a row for each value of the sum other than 0.
         ensures { result ≡ length (table_values self.now) }
     {
         self.values.as_slice().len() as u64
@@ -148,6 +153,7 @@ impl BoundTable {
         requires original { VarsBelow first self.now }
         requires low { 1 ≤ first }
         requires fits { first + table_fresh self.now ≤ 2 ^ 31 }
+        // The value and the literal are those of the row.
         ensures { result ≡ slice_get (table_rows self.now first) i }
     {
         if i >= self.len() {
@@ -164,6 +170,7 @@ impl BoundTable {
         requires original { VarsBelow first self.now }
         requires low { 1 ≤ first }
         requires fits { first + table_fresh self.now ≤ 2 ^ 31 }
+        // Exactly the table's clauses were emitted, in order, or a first part of their text until the sink failed or memory ran out.
         ensures { HandsIfMemory (table_clauses self.now first) result (S.state sink.old) (S.state sink.new) }
     {
         emit_table(alloc, self.terms.as_slice(), self.weight, first, sink)
@@ -175,6 +182,7 @@ impl BoundTable {
         requires low { 1 ≤ first }
         requires fits { first + table_fresh self.now ≤ 2 ^ 31 }
         requires few { (T.state sink.old).next ≤ 2 ^ 61 }
+        // Exactly the steps that derive them were emitted, or the first ones until the sink failed or memory ran out.
         ensures { HandsSteps (table_steps self.now first (T.state sink.old).next) result (T.state sink.old) (T.state sink.new) }
     {
         derive_table(alloc, self.terms.as_slice(), self.weight, first, sink)

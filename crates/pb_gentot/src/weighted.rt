@@ -1,4 +1,9 @@
 //! A bounded sum with any coefficients, by a generalized totalizer.
+//!
+//! `build` measures every node, to count and to stop at the budget, and stores no values: they would take 16 bytes for each fresh
+//! variable while the plan lives, and measuring holds those of one path of the tree. So the values are made again when the clauses
+//! are emitted. That allocates in any case, for the table that finds a node's sums. So `Weighted::emit`, alone of the families, may
+//! answer `NoMemory`.
 ghost use Rattle.std.specs.Prelude.{◌≡◌, ◌<◌, ◌^◌};
 ghost use Rattle.pb_norm.specs.Constraints.{weight, weights};
 ghost use Rattle.pb_norm.specs.BoundedSums.{IsProper, sum_within};
@@ -39,10 +44,15 @@ impl Weighted {
     pub fn build(alloc: Global, of: &AtMost, budget: u64) -> Result<Built<Weighted>, NoMemory>
         requires light { weight of.now.terms < 2 ^ 100 }
         requires modest { budget < 2 ^ 24 }
+        // The budget is passed iff the fresh variables are more.
         ensures over { IfOk result (λ built. IsOverExactly (generalized_fresh of.now) budget built) }
+        // The family is of this sum.
         ensures constraint { IfOk result (λ built. IfFits (λ t. ⟦<Weighted as Family>⟧.constraint t ≡ of.now) built) }
+        // The number of fresh variables is the defined one.
         ensures fresh { IfOk result (λ built. IfFits (λ t. ⟦<Weighted as Family>⟧.fresh_count t ≡ generalized_fresh of.now) built) }
+        // The number of clauses is the defined one.
         ensures clauses { IfOk result (λ built. IfFits (λ t. ⟦<Weighted as Family>⟧.clause_count t ≡ generalized_size of.now) built) }
+        // The clauses are those of the generalized totalizer.
         ensures list { IfOk result (λ built. IfFits (λ t. (first : ℕ) → ⟦<Weighted as Family>⟧.clause_list t first ≡ generalized_clauses of.now first) built) }
     {
         let bound = of.bound();

@@ -134,8 +134,8 @@ refutes_text (Ok x) slot vars clauses s old new a b at is reads =
 refutes_text (Err f) slot vars clauses s old new a b at is reads = tt
 
 -- memory was wanting before a byte was read
-pub wants_at_start : {A : Type 0} (r : Result A RefuteFault) (slot vars : ℕ) (clauses : List (List Lit)) (a : DeskState) → IsErrAnd r (λ f. f ≡ NoMemory) → IfErr r (StopsRefuting vars clauses slot a a)
-wants_at_start (Ok x) slot vars clauses a is = tt
-wants_at_start (Err f) slot vars clauses a is =
+pub wants_at_start : {A : Type 0} (r : Result A RefuteFault) (slot vars : ℕ) (clauses : List (List Lit)) (a : DeskState) → a.ended slot ≡ false → IsErrAnd r (λ f. f ≡ NoMemory) → IfErr r (StopsRefuting vars clauses slot a a)
+wants_at_start (Ok x) slot vars clauses a not_ended is = tt
+wants_at_start (Err f) slot vars clauses a not_ended is =
     subst (StopsRefuting vars clauses slot a a) (sym is)
-    (takes_text slot nothing_held a a (λ text rest. Unit {0}) (λ text. Unit {0}) (λ text rest p. p) (reads_begin slot nothing_held a (λ text rest. Unit {0}) (λ text. tt)))
+    (takes_text slot nothing_held a a (λ text rest. Unit {0}) (λ text. Unit {0}) (λ text rest p. p) (reads_begin slot nothing_held a (λ text rest. Unit {0}) not_ended (λ text. tt)))

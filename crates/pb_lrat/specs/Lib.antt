@@ -5,6 +5,7 @@ pub mod Hints
 pub mod LratStates
 pub mod LratWalk
 pub mod Refuting
+pub mod Reasons
 pub mod laws
 pub mod LratLaws
 pub mod inner

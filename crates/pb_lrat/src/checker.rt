@@ -74,6 +74,7 @@ impl LratChecker {
     /// A checker over the clauses of a CNF, whose ids are 1 and on, in order. Literals of lines are of the first so many variables.
     pub fn new(alloc: Global, vars: u32, clauses: Clauses) -> Result<LratChecker, NoMemory>
         requires { vars < 2 ^ 31 }
+        // The checker has the clauses under the ids from 1 on, and knows whether one is empty.
         ensures { IfOk result (λ checker. checker ≡ started vars clauses) }
     {
         let (store, refuted) = store_with_ids(alloc, clauses)?;
@@ -120,8 +121,12 @@ impl LratChecker {
 
     /// Takes the next line, without its LF, or tells its first fault or why its clause may not be added. After a fault nothing has changed.
     pub fn line(&mut self, bytes: &[u8]) -> Result<(), LratFault>
+        // After `Ok` the state is the one that the line makes.
         ensures ok { OnOk result (after_line self.old bytes.now ≡ Ok self.new) }
+        // A fault is `NoMemory` or the specified one: the first word that may not be there, with its column, a limit, or why the clause
+        // may not be added.
         ensures fault { IfErr result (IsDueFault (after_line self.old bytes.now)) }
+        // A fault changes nothing.
         ensures same { OnErr result (self.new ≡ self.old) }
     {
         match read_line(self.alloc, self.vars, bytes)? {
@@ -136,6 +141,7 @@ impl LratChecker {
 
     /// Whether the CNF had an empty clause or a line added one.
     pub fn finish(&self) -> bool
+        // The answer is true iff the CNF had an empty clause or a line added one.
         ensures { result ≡ self.now.refuted }
     {
         self.refuted

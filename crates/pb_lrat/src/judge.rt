@@ -1,4 +1,6 @@
 //! Why a clause does not follow by hinted clauses.
+//!
+//! Hints are judged as they are found. An unknown one ends the line wherever it is, since nothing is added before all were found.
 ghost use Rattle.std.specs.Prelude.{◌≡◌, [], not, false, true, if◌then◌else◌, Ok, IfOk, OnOk};
 ghost use Rattle.pb_base.specs.declared.literal.Lit.{Lit};
 ghost use Rattle.pb_base.specs.Literals.{negated, is_among};

@@ -1,4 +1,8 @@
 //! A value for some variables, by pages, so that a great variable takes little memory.
+//!
+//! A page of 2^16 values is made when one of its variables is first true or false. A page without any takes a few words, so what a
+//! line costs does not depend on the greatest variable. All else speaks of the list of true literals; that values by variable
+//! represent such a list is proved in `pb_unit`, for any function from variables to values.
 ghost use Rattle.std.specs.Prelude.{◌≡◌, ◌≢◌, ◌≤◌, ◌<◌, ℕ, [], length, slice_index_or, max, OnOk, OnErr, Some, None};
 ghost use Rattle.pb_lrat.specs.inner.Marks.{value_at};
 

@@ -1,5 +1,7 @@
-//! Lines in the layout in which they are mostly written: one blank before each word behind the first, and no other. They are read in one pass; any other
-//! line is left to the reader of words, which tells its fault.
+//! Lines in the layout in which they are mostly written: one blank before each word but the first, and no other. They are read in one pass.
+//!
+//! A line is an id, literals to a 0, and hints to a 0 that ends the line; or `d` and ids. Integers and the proof of a part of a line
+//! are those of `pb_steps`. A comment, a blank line and any fault are left to the reader of words, which finds the fault's column.
 ghost use Rattle.std.specs.Prelude.{◌≡◌, ◌≤◌, ◌<◌, ◌^◌, ◌∷◌, [], length, map, codes, Ok, IfOk, IfSome};
 ghost use Rattle.std.specs.List.{AllByRecursion};
 ghost use Rattle.pb_base.specs.Words.{words_of};

@@ -1,4 +1,7 @@
 //! What a line says.
+//!
+//! Words, ids and limits are those of derivations, from `pb_steps`, whose fault of a line becomes one of LRAT where the checker reads
+//! the line. `4 d 0` deletes nothing and is accepted. `00` ends hints, and `-0` and `+0` end literals alone.
 ghost use Rattle.std.specs.Prelude.{◌≡◌, ℕ, List, [], ◌∷◌, ◌<◌, ◌^◌, Ok, Err, IfOk, IfErr};
 ghost use Rattle.pb_base.specs.Pieces.{chunk};
 ghost use Rattle.pb_dimacs.specs.CnfReading.{opens_comment};

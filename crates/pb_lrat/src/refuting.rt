@@ -1,6 +1,7 @@
 //! Going through a refutation, line after line.
-ghost use Rattle.std.specs.Prelude.{◌≡◌, ◌≢◌, ◌<◌, ◌^◌, IsTrue, None, Err, IfErr, OnOk};
+ghost use Rattle.std.specs.Prelude.{◌≡◌, ◌≢◌, ◌<◌, ◌^◌, false, IsTrue, None, Err, IfErr, OnOk};
 ghost use Rattle.pb_desk.specs.Desk.{IsSteady};
+ghost use Rattle.pb_desk.specs.LineReading.{Knows};
 ghost use Rattle.pb_dimacs.specs.CnfRows.{cnf_limits};
 ghost use Rattle.pb_lrat.specs.Refuting.{Refutes, StopsRefuting, RefutesLines, StopsLines};
 
@@ -24,6 +25,7 @@ fn take_lines<D: Desk>(
     checker: &mut LratChecker,
 ) -> Result<(), RefuteFault>
     requires open { IsTrue ((D.state desk.old).view.reading lines.old.slot) }
+    requires knows { Knows lines.old.slot lines.old.ahead (D.state desk.old) }
     requires fine { lines.old.fault ≡ None }
     requires limits { lines.old.limits ≡ cnf_limits }
     ensures refuted { OnOk result (RefutesLines checker.old lines.old lines.new (D.state desk.old) (D.state desk.new)) }
@@ -60,11 +62,16 @@ pub fn refute<D: Desk>(
     vars: u32,
     clauses: Clauses,
 ) -> Result<(), RefuteFault>
-    requires kind { slot < 4 }
+    requires kind { slot < 5 }
     requires open { IsTrue ((D.state desk.old).view.reading slot) }
+    requires not_ended { (D.state desk.old).ended slot ≡ false }
     requires vars { vars < 2 ^ 31 }
+    // On a visible desk `Ok` means that the rest of the slot's text refutes the clauses.
     ensures refuted { OnOk result (Refutes vars clauses slot (D.state desk.old) (D.state desk.new)) }
+    // On a visible desk a fault is the text's first, with its place, or the first denied line, or `NoMemory`. A failed read is answered
+    // only if the checker accepts every complete line read before it. The end is met at most once.
     ensures stopped { IfErr result (StopsRefuting vars clauses slot (D.state desk.old) (D.state desk.new)) }
+    // On a steady desk no read fails.
     ensures steady { IsSteady (D.state desk.old) → result ≢ Err RefuteFault.Failed }
 {
     let mut lines = LineReader::new(alloc, slot, LIMITS)?;

@@ -1,4 +1,11 @@
 //! Clauses by their ids, all literals in one list.
+//!
+//! The definition has a list of ids with clauses. The code has three arrays: all literals, ascending ids, and where each clause's
+//! literals are. A hint is looked for at the index that it has if no id is missing before it, or none after it; else by binary
+//! search.
+//!
+//! Once deleted clauses take more than half of the arrays, the live ones are copied into new arrays. If there is no memory for that,
+//! the old ones stay, so deleting never fails.
 ghost use Rattle.std.specs.Prelude.{◌≡◌, ◌≢◌, ◌≤◌, ◌<◌, ℕ, length, slice_index_or, slice_range, ◌==◌, ◌∷◌, ◌++◌, [], not, filter, IfSome, IfOk, OnOk, OnErr, Some, None, vec_len, vec_capacity};
 ghost use Rattle.std.specs.List.{list_any};
 ghost use Rattle.pb_lrat.specs.Hints.{clause_at};

@@ -94,6 +94,8 @@ fn first_violated(values: &Widened, statements: &Statements) -> Option<u64>
 pub fn decode(problem: &Problem, model: &Model) -> Decoded
     requires within { IsWithinLimits problem.now }
     requires covers { length model.now.values ≡ problem.now.vars }
+    // The answer is no model iff the text does not say that there is one; else the first statement that the values violate, counted from
+    // 1; else the values, which are a solution.
     ensures { IsDecoded problem.now model.now result }
 {
     let Says::Satisfiable = model.says else {

@@ -1,7 +1,7 @@
 //! Laws about the definitions.
 ghost use Rattle.pb_model.specs.ModelLaws.{ToldExactly};
 
-/// The law that words tell a model exactly where none is wrong behind those before it, and a fault exactly where it is the first.
+/// The law that the words of a text say a model iff each may follow those before it, and else their fault is the first that may not.
 pub fn told_exactly()
     ensures { ToldExactly }
 {}

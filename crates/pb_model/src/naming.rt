@@ -58,7 +58,9 @@ fn push_lines(out: &mut Vec<u8>, problem: &Problem) -> Result<(), AllocError>
 /// were.
 pub fn write_map(_alloc: Global, problem: &Problem, out: &mut Vec<u8>) -> Result<(), NoMemory>
     requires within { IsWithinLimits problem.now }
+    // On success a line for each free name was appended, of its number and the name, in the order of the numbers.
     ensures ok { OnOk result (out.new.items ≡ out.old.items ++ map_text problem.now) }
+    // After `NoMemory` the bytes are as they were.
     ensures err { OnErr result (out.new.items ≡ out.old.items) }
 {
     let before = out.len();

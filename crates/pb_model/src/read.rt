@@ -1,4 +1,6 @@
 //! The reader of model texts.
+//!
+//! There have to be fewer than 2^31 variables, so that each value is a variable's. Every problem within the limits has so few.
 ghost use Rattle.std.specs.Prelude.{◌≡◌, ◌≤◌, ◌<◌, ◌^◌, [], length, Ok, IfOk, IfErr};
 ghost use Rattle.pb_model.specs.ModelLines.{symbols_of};
 ghost use Rattle.pb_model.specs.ModelReading.{told, told_in, IsFaultOf};
@@ -41,8 +43,11 @@ fn read_lines(reader: Reader, text: &[u8]) -> Result<Model, ModelFault>
 /// The text has at most 2^32 bytes, and variables are at most 2^31 - 1.
 pub fn read_model(alloc: Global, text: &[u8], vars: u32) -> Result<Model, ModelFault>
     requires { vars < 2 ^ 31 }
+    // The model is what the text says: the words of its status line, and for each variable whether it is listed.
     ensures says { IfOk result (λ m. told vars text.now ≡ Ok m) }
+    // There is a value for each variable.
     ensures covers { IfOk result (λ m. length m.values ≡ vars) }
+    // A fault is `NoMemory`, or the text's first with its place and what was expected.
     ensures fault { IfErr result (IsFaultOf (told vars text.now)) }
 {
     if text.len() as u64 > MAX_TEXT {

@@ -100,7 +100,9 @@ pub fn write_solution(
 ) -> Result<(), NoMemory>
     requires within { IsWithinLimits problem.now }
     requires covers { length values.now ≡ problem.now.vars }
+    // On success the text of the solution was appended, with the exact value of the objective and each variable by its name.
     ensures ok { OnOk result (out.new.items ≡ out.old.items ++ solution_text problem.now values.now) }
+    // After `NoMemory` the bytes are as they were.
     ensures err { OnErr result (out.new.items ≡ out.old.items) }
 {
     let before = out.len();

@@ -1,4 +1,8 @@
 -- The problem of names: each free name, in the order in which they first stand in a text, is a variable behind those of indices, and each product of literals one behind them (our own).
+-- A text denotes a problem by three facts: something written in names; that the text's tokens spell it; and that the problem is that
+-- of it and of the number that the first line declares. So which word may come where, and which limits hold so far, is said of
+-- problems in names, and `problem_of` alone speaks of problems in numbers. A free name's number is known only at the end of the
+-- text. So too many variables are reported there, by a case of their own, and only if the text has no other fault.
 use Rattle.std.specs.Prelude.{ℕ, ◌+◌, max, List, [], ◌∷◌, ◌++◌, map, length, ℤ, true}
 use Rattle.std.specs.List.{flat_map, position_or_len}
 use Rattle.std.specs.Option.{option_map, unwrap_or}

@@ -1,4 +1,7 @@
 -- Products of literals as sets (our own).
+-- Names that differ may be one variable (`x2` and `x02`), so the reader keeps the literals as they are written. What a product comes
+-- to is decided once they have numbers: what is repeated is dropped, the order does not matter, and opposite literals make it 0.
+-- Sorted, equal and opposite literals are neighbours. A product gets its variable where it first occurs, as a name does.
 use Rattle.std.specs.Prelude.{ℕ, nat_lt, ◌==◌, ◌&&◌, ◌||◌, Bool, false, not, List, [], ◌∷◌, if◌then◌else◌}
 use Rattle.std.specs.Cmp.Lexicographic.{pointwise}
 use Rattle.pb_base.specs.declared.literal.Lit.{Lit}

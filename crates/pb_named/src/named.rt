@@ -60,6 +60,7 @@ impl<'a> Name<'a> {
     pub fn of_index(number: u32) -> Self
         requires low { 1 ≤ number }
         requires high { number < 2 ^ 31 }
+        // The name is `x` and the number.
         ensures { result ≡ index number }
     {
         Name {
@@ -71,6 +72,7 @@ impl<'a> Name<'a> {
     /// A free name.
     pub fn of_text(text: &'a [u8]) -> Self
         requires { length text.now ≤ 255 }
+        // The name is the free name of these bytes.
         ensures { result ≡ free text.now }
     {
         Name { index: 0, text }
@@ -88,6 +90,7 @@ impl<'a> Name<'a> {
 
     /// What stands in it.
     pub fn parts(&self) -> Parts<'a>
+        // The parts are those of the name.
         ensures value { of_parts result ≡ self.now }
         ensures index { IsInReach result }
     {

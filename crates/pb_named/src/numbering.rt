@@ -238,8 +238,12 @@ fn by_names<'a>(
 /// problem first has them, and products of two or more literals behind these.
 pub fn number(alloc: Global, told: u32, problem: NamedProblem<'_>) -> Result<Problem, NumberFault>
     requires { told < 2 ^ 31 }
+    // The problem in numbers is the defined one: numbered variables first, then free names in the order in which they occur, then a
+    // variable for each product of two or more literals.
     ensures ok { IfOk result (λ p. p ≡ problem_of told problem.entry) }
+    // It has fewer than 2^31 variables, those of products included.
     ensures few { IfOk result (λ p. originals p < 2 ^ 31) }
+    // `Variables` is answered only if it would have 2^31 or more.
     ensures many { IsErrOf result NumberFault.Variables → 2 ^ 31 ≤ originals (problem_of told problem.entry) }
 {
     let mut table = Table::new(alloc, told);

@@ -9,6 +9,7 @@ use pb_base::Terms;
 
 /// The terms of a constraint by their coefficients downwards, then by their variables.
 pub fn by_weight(constraint: Linear) -> Terms
+    // The terms are the constraint's, by coefficients downwards and then by variables.
     ensures { weights result ≡ by_weight constraint.terms }
 {
     let mut terms = constraint.into_terms();

@@ -11,6 +11,7 @@ use std::alloc::Global;
 /// The variable of the product at a place, where so many variables come before those of products.
 pub fn product_variable(vars: u32, place: usize) -> Lit
     requires { vars + place + 1 < 2 ^ 31 }
+    // The variable is the one after the problem's and those of the products before this one.
     ensures { result ≡ plain (vars + 1 + place) }
 {
     Lit {
@@ -66,6 +67,7 @@ pub fn product_constraint(
     place: usize,
 ) -> Result<Linear, NoMemory>
     requires { place ≤ length literals.now }
+    // The constraint is the form of the clause with this number among those that say what the product is.
     ensures { IfOk result (λ c. c ≡ clause_form (slice_index_or (product_clauses product.now literals.now) place [])) }
 {
     let clause = product_clause(alloc, product, literals, place)?;

@@ -1,4 +1,6 @@
 -- What a text says, and its first fault (our own).
+-- After a term, `TermOrRelation` or `TermOrSemicolon` is expected, as before one; but there a further literal may come too. So these
+-- two words say nothing about literals (`tells`), and the other kinds of tokens decide which word it is.
 use Rattle.std.specs.Prelude.{◌≡◌, ◌↔◌, ◌⊎◌, IsTrue, ℕ, ◌<◌, ◌≤◌, ◌^◌, List, [], ◌∷◌, ◌++◌, length, map, Option, Some, None, IsSomeAnd, Bool, true, false}
 use Rattle.pb_base.specs.declared.place.Place.{Place}
 use Rattle.pb_base.specs.declared.problem.Problem.{Problem}

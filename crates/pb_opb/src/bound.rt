@@ -52,10 +52,13 @@ pub fn bounded(_alloc: Global, problem: Problem, bound: i128) -> Result<Problem,
     requires within { IsWithinLimits problem }
     requires room { length problem.statements ≤ 2 ^ 24 }
 
+    // The problem has one more statement, that its objective is at most the bound; the objective is the empty sum if there is none.
     ensures ok { IfOk result (λ p. p ≡ bounded problem bound) }
+    // It is within what the crates above require.
     ensures within { IfOk result IsWithinLimits }
-    // A sum too heavy is told, and no other.
+    // A problem is answered only if the absolute values of the objective's coefficients and of the bound add up to less than 2^100.
     ensures light { OnOk result (bound_weight problem bound < 2 ^ 100) }
+    // `Weight` is answered only if they add up to 2^100 or more.
     ensures heavy { IsErrOf result fault.Weight → 2 ^ 100 ≤ bound_weight problem bound }
 {
     let mut problem = problem;
@@ -67,7 +70,7 @@ pub fn bounded(_alloc: Global, problem: Problem, bound: i128) -> Result<Problem,
     Ok(problem)
 }
 
-/// The law that a bound keeps those solutions under which the objective is at most the bound, and no others.
+/// The law that the solutions of a bounded problem are those under which the objective is at most the bound.
 pub fn bound_keeps_smaller()
     ensures { BoundKeepsSmaller }
 {}

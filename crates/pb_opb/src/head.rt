@@ -1,4 +1,8 @@
 //! The token at the front of a text, where it is one of those that most texts consist of: it is read as it is found.
+//!
+//! An integer or index of few digits, a relation or a `;` is known by its first byte and read in place, if a white byte or a `;` ends
+//! it. Any other token is cut as `pb_base` cuts tokens, so this way promises nothing if it answers none. Lines and columns are
+//! counted from the begin of the text, only once there is a fault.
 ghost use Rattle.std.specs.Prelude.{◌≡◌, ◌∷◌, ◌≤◌, IfSome, length};
 ghost use Rattle.pb_base.specs.inner.Scans.{BeginsToken};
 ghost use Rattle.pb_opb.specs.reader.Heads.{AreDigits, IsHead, behind_x, ends_word, token_at};

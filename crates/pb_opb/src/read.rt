@@ -23,8 +23,12 @@ use std::alloc::Global;
 /// line tells, or as many as the greatest index where that is more; behind them stand those of
 /// free names of at most 255 bytes, in the order in which the text first has them.
 pub fn read_opb(alloc: Global, text: &[u8]) -> Result<Problem, OpbFault>
+    // The problem is the one that the text says, and no limit is passed.
     ensures reads { IfOk result (Reads text.now) }
+    // It is within what the crates above require.
     ensures within { IfOk result IsWithinLimits }
+    // A fault is `NoMemory` or the text's first: its length; the number in the first line; the first token with which no accepted text
+    // begins, or with which a limit is passed; else too many variables. It says what could come there.
     ensures fault { IfErr result (IsFirstFault text.now) }
 {
     if text.len() as u64 > MAX_TEXT {

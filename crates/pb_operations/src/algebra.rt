@@ -1,4 +1,9 @@
 //! The rules of cutting planes (Cook, Coullard and Turán 1987; Gocht et al. 2022): constraints made of constraints, each in normal form again.
+//!
+//! A line of a diagram weakens a dozen variables out of a sum of hundreds of terms, and to close the gap after each was a fifth of a
+//! check. So two weakenings or more are one pass (`weakenings`): each term is found by binary search, its coefficient becomes 0, and
+//! the terms with 0 are dropped at the end. The variables may come in any order, and more than once; the contract is that of the
+//! operations one after another.
 ghost use Rattle.std.specs.Prelude.{◌≡◌, ◌<◌, ◌≤◌, ◌^◌, ◌*◌, nat_lt, IfOk};
 ghost use Rattle.pb_norm.specs.Constraints.{constraint_of, weight, weights, AreUnsigned, AllPositive, IsAscending};
 ghost use Rattle.pb_norm.specs.Addition.{sum_of};
@@ -35,6 +40,7 @@ fn within_width(terms: Vec<Term>, degree: u128) -> Option<Linear>
 pub fn plus(alloc: Global, left: &Linear, right: &Linear) -> Result<Option<Linear>, NoMemory>
     requires left { IsNarrow left.now }
     requires right { IsNarrow right.now }
+    // The constraint is the sum, or None iff the sum of its coefficients or its degree is 2^126 or more.
     ensures { IfOk result (λ made. made ≡ fitting (sum_of left.now right.now)) }
 {
     let joined = join(alloc, left.terms(), right.terms())?;
@@ -44,6 +50,7 @@ pub fn plus(alloc: Global, left: &Linear, right: &Linear) -> Result<Option<Linea
 
 /// The constraint that a literal is at least 0, which always holds.
 pub fn axiom(alloc: Global, lit: Lit) -> Result<Linear, NoMemory>
+    // The constraint is the literal's axiom.
     ensures { IfOk result (λ made. made ≡ axiom_of lit) }
 {
     let terms = vec![in alloc; Term::weighing(1, lit)]?;
@@ -73,6 +80,7 @@ pub fn multiple(
     factor: u128,
 ) -> Result<Option<Linear>, NoMemory>
     requires { 0 < factor }
+    // The constraint is the multiple, or None iff the sum of its coefficients or its degree is 2^126 or more.
     ensures { IfOk result (λ made. made ≡ fitting (multiple factor constraint.now)) }
 {
     if !has_room_for_multiple(constraint, factor) {
@@ -87,6 +95,7 @@ pub fn multiple(
 pub fn division(alloc: Global, constraint: &Linear, divisor: u128) -> Result<Linear, NoMemory>
     requires divisor { 0 < divisor }
     requires small { divisor ≤ 2 ^ 127 }
+    // The constraint is the quotient, all numbers rounded up.
     ensures { IfOk result (λ made. made ≡ division divisor constraint.now) }
 {
     let terms = terms::shrunk(alloc, constraint.terms(), divisor)?;
@@ -96,6 +105,7 @@ pub fn division(alloc: Global, constraint: &Linear, divisor: u128) -> Result<Lin
 
 /// The constraint with each coefficient cut to the degree (Chai and Kuehlmann 2005).
 pub fn saturation(alloc: Global, constraint: &Linear) -> Result<Linear, NoMemory>
+    // The constraint is the saturated one.
     ensures { IfOk result (λ made. made ≡ saturation constraint.now) }
 {
     let terms = terms::saturate_terms(alloc, constraint.terms(), constraint.degree())?;
@@ -104,6 +114,7 @@ pub fn saturation(alloc: Global, constraint: &Linear) -> Result<Linear, NoMemory
 
 /// The constraint without a variable: the degree loses its coefficient. It takes no memory.
 pub fn weakening(constraint: Linear, var: Var) -> Linear
+    // The constraint is the weakened one.
     ensures { result ≡ weakening var constraint }
 {
     let degree = constraint.degree();
@@ -115,6 +126,7 @@ pub fn weakening(constraint: Linear, var: Var) -> Linear
 /// The constraint weakened by each operation that weakens, one after the other; the others count for nothing. It takes no memory,
 /// and goes through the terms once.
 pub fn weakenings(constraint: Linear, ops: &[PolOp]) -> Linear
+    // The constraint is the one that the weakenings give, one after another.
     ensures { result ≡ weakened ops.now constraint }
 {
     let mut degree = constraint.degree();
@@ -133,6 +145,7 @@ pub fn weakenings(constraint: Linear, ops: &[PolOp]) -> Linear
 /// The constraint that holds exactly where this one does not. Its degree may be 2^126.
 pub fn negation(alloc: Global, constraint: &Linear) -> Result<Linear, NoMemory>
     requires { IsNarrow constraint.now }
+    // The constraint is the negation.
     ensures { IfOk result (λ made. made ≡ negation constraint.now) }
 {
     let terms = terms::opposites(alloc, constraint.terms())?;

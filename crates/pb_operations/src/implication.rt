@@ -75,6 +75,7 @@ fn follows(terms: &[Term], turn: bool, degree: u128, other: &Linear) -> bool
 /// Whether the second constraint follows from the first one term by term (syntactic implication, as in VeriPB): the degree that is
 /// left when each coefficient above the other's is given away is enough. Time is linear in both.
 pub fn implies(constraint: &Linear, other: &Linear) -> bool
+    // The answer is true iff the second constraint follows term by term.
     ensures { result ≡ implies constraint.now other.now }
 {
     follows(constraint.terms(), false, constraint.degree(), other)
@@ -82,6 +83,7 @@ pub fn implies(constraint: &Linear, other: &Linear) -> bool
 
 /// Whether the second constraint follows from the negation of the first one term by term. The negation is not made for that.
 pub fn negation_implies(constraint: &Linear, other: &Linear) -> bool
+    // The answer is true iff the second constraint follows term by term from the negation of the first.
     ensures { result ≡ implies (negation constraint.now) other.now }
 {
     let degree = (constraint.weight() + 1).saturating_sub(constraint.degree());

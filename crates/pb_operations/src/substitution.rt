@@ -44,6 +44,7 @@ fn name_set(sets: &[Set], terms: &[Term]) -> bool
 
 /// Whether the constraint has a variable that is set.
 pub fn names_set(sets: &[Set], constraint: &Linear) -> bool
+    // The answer is true iff the constraint has a variable that is set.
     ensures { result ≡ names_set sets.now constraint.now }
 {
     name_set(sets, constraint.terms())
@@ -92,6 +93,7 @@ pub fn restricted(sets: &[Set], constraint: Linear) -> Linear
 
 /// The same of a constraint that stays.
 pub fn restriction(alloc: Global, sets: &[Set], constraint: &Linear) -> Result<Linear, NoMemory>
+    // The constraint is the one under the substitution.
     ensures { IfOk result (λ made. made ≡ restriction sets.now constraint.now) }
 {
     let copy = constraint.copy(alloc)?;

@@ -122,9 +122,13 @@ fn put_out(db: &mut Database, id: u64, next: Option<&Clause>) -> Result<Applied,
 pub fn apply(db: &mut Database, step: &Step, next: Option<&Clause>) -> Result<Applied, RuleFault>
     requires rule { IsRule step.now }
     requires spelled { IsSpelled step.now }
+    // A step that is accepted is allowed, and the database is the one that it leaves.
     ensures allowed { OnOk result (Allowed db.old step.now (option_copied next.entry) db.new) }
+    // The answer is the id of the constraint that was added, if one was.
     ensures given { IfOk result (λ a. a ≡ applied db.old step.now) }
+    // A fault is `NoMemory`, or the first cause that applies why the step is not allowed.
     ensures fault { IfErr result (IsFault db.old step.now (option_copied next.entry)) }
+    // After a fault the database is as it was.
     ensures unchanged { OnErr result (db.new ≡ db.old) }
 {
     match step {

@@ -1,4 +1,6 @@
 //! Constraints that are taken away.
+//!
+//! Ids that ascend are different. Only if they do not is a set made, to find one that is named twice.
 ghost use Rattle.std.specs.Prelude.{◌≡◌, ◌<◌, ◌||◌, List, Option, IfOk, IsTrue, OnOk, IfErr, find, not};
 ghost use Rattle.std.specs.List.{AllPairs};
 ghost use Rattle.pb_base.specs.declared.literal.Lit.{Lit};

@@ -1,4 +1,8 @@
-//! The constraint that terms and a right side write.
+//! The constraint that a line writes, in normal form.
+//!
+//! Mostly it is in normal form but for its order: no coefficient has a sign, and each variable occurs once. Then the terms in order
+//! are the constraint; a fresh variable, which comes first in the line that defines it, is moved to the end. Only else are net
+//! coefficients computed.
 ghost use Rattle.std.specs.Prelude.{◌≡◌, ◌∷◌, IsTrue, IfOk, pos, int_lt};
 ghost use Rattle.std.specs.List.{list_all};
 ghost use Rattle.std.specs.List.Sorted.{IsPermutation};

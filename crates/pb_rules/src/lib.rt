@@ -1,4 +1,4 @@
-//! The rules by which steps of a derivation change the constraints that stand.
+//! The rules by which steps of a derivation change the live constraints.
 #![tactic(auto)]
 
 mod applying;

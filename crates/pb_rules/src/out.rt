@@ -1,4 +1,7 @@
 //! Clauses that are put out.
+//!
+//! The constraint mostly is a clause of two to four literals, each of which is among those of the clause that is put out: then the
+//! clause follows. Only else is the clause's form made and compared.
 ghost use Rattle.std.specs.Prelude.{OnOk, IfErr};
 ghost use Rattle.std.specs.Option.{option_copied};
 ghost use Rattle.pb_steps.specs.declared.step.Step.TheVariants.{Out};

@@ -1,4 +1,6 @@
 //! Redundance by a substitution.
+//!
+//! If the substitution brings the claim to the degree 0, it always holds, and neither a restriction nor a negation is made.
 ghost use Rattle.std.specs.Prelude.{◌≡◌, ◌<◌, ◌++◌, List, Option, None, All, IfOk, IfSome, OnOk, IfErr, nat_lt, nat_le, find};
 ghost use Rattle.std.specs.Bool.{MatchBool};
 ghost use Rattle.pb_base.specs.declared.literal.Lit.{Lit};

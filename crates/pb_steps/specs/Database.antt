@@ -1,4 +1,6 @@
 -- The constraints that stand while a derivation is checked (as in VeriPB; Gocht 2022).
+-- A database is a list of entries by ascending ids, each with its constraint and a mark if its clause was put out. A list of these
+-- ids besides would fix an order that no rule asks for. If `del` names an id twice, the second one is the unknown one.
 use Rattle.std.specs.Prelude.{◌+◌, ◌==◌, ◌||◌, ℕ, Bool, false, not, List, [], ◌∷◌, ◌++◌, Option, Some, None, is_some, map, filter, length, IsTrue, if◌then◌else◌}
 use Rattle.std.specs.List.{list_any}
 use Rattle.pb_norm.specs.Constraints.{Constraint}

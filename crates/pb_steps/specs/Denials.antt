@@ -1,4 +1,6 @@
 -- Why a step is not allowed: the first cause that applies (our own).
+-- Without excluded middle, that a step of a rule is allowed or denied is a theorem (`allowed_or_denied`), since a search for a
+-- conflict decides it. It is never both, and there is one database, or one reason.
 use Rattle.std.specs.Prelude.{◌≡◌, ◌^◌, ◌+◌, ◌⊎◌, ℕ, Bool, true, not, nat_lt, nat_le, List, [], ◌∷◌, ◌++◌, Option, Some, None, is_some, unsigned_abs, option_map, unwrap_or, find, All, if◌then◌else◌}
 use Rattle.std.specs.Option.{option_or}
 use Rattle.pb_base.specs.declared.literal.Lit.{Lit}

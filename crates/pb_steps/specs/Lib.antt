@@ -12,6 +12,7 @@ pub mod Database
 pub mod Stacks
 pub mod Allowed
 pub mod Denials
+pub mod Reasons
 pub mod Runs
 pub mod Extends
 pub mod laws

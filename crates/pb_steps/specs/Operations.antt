@@ -1,4 +1,6 @@
 -- What may be made of constraints: the cutting planes rules, negation and implication (Gocht et al. 2022). Addition and saturation of coefficients stand with the constraints.
+-- A constraint is live only if the sum of its coefficients and its degree are below 2^126; a product is tested before it is made. A
+-- negation may have the degree 2^126, so it can be propagated, but is never live.
 use Rattle.std.specs.Prelude.{◌+◌, ◌-◌, ◌*◌, ◌==◌, ◌&&◌, ◌||◌, ◌^◌, nat_lt, nat_le, cond, not, ℕ, Bool, [], ◌∷◌, map, filter, sum_by, IsTrue}
 use Rattle.pb_base.specs.declared.literal.Lit.{Lit}
 use Rattle.pb_norm.specs.Constraints.{Weighted, Constraint, weight}

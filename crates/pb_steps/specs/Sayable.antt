@@ -1,4 +1,5 @@
 -- The steps that a line can say (our own profile). What rules ask of a step (IsSpelled) follows from it, and has no limits.
+-- Rules that required these limits too would refuse callers for nothing.
 use Rattle.std.specs.Prelude.{◌≤◌, ◌<◌, ◌≢◌, ◌^◌, ◌≤ℤ◌, ℕ, List, [], ◌∷◌, ℤ, pos, unsigned_abs}
 use Rattle.std.specs.List.{AllByRecursion}
 use Rattle.pb_base.specs.declared.literal.Term.{Term}

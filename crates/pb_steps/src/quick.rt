@@ -1,5 +1,12 @@
-//! Lines of steps in the layout in which they are written: one blank before each word behind the first, and no other. They are read in one pass; any other
-//! line is left to the reader of words, which tells its fault.
+//! Lines of steps in the layout in which they are written, read in one pass: one blank before each word but the first, a sign before each coefficient, one variable set.
+//!
+//! `quick_step` reads the bytes once and makes no words. A list gets its room by the number of bytes that remain: to count their
+//! blanks costs more than growing does. Numbers of `pol` are read whole, since nearly every such line ends in a division by 2^126 -
+//! 1; elsewhere a number from about 2^60 on is left to the reader of words. So is a line with anything unusual, a fault too: it is
+//! read again from its start, and faults and columns are made in one place.
+//!
+//! What is proved of a part of a line is that its bytes spell its symbols, whatever the words after it are (`Spells`). So parts
+//! follow one another with no word on columns, and both readers agree by the law that a step's spelling is read as that step.
 ghost use Rattle.std.specs.Prelude.{◌≡◌, ◌<◌, ◌^◌, ◌∷◌, [], codes, unsigned_abs, Ok, IfOk, IfSome};
 ghost use Rattle.pb_steps.specs.LineSteps.{step_of};
 ghost use Rattle.pb_steps.specs.Fronts.{IsShort};

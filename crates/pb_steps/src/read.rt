@@ -160,9 +160,13 @@ fn read_either(alloc: Global, line: &[u8]) -> Result<Step, StepFault>
 /// Ids and counts are at most 2^63 - 1, variables at most 2^31 - 1, and the absolute values of
 /// integers and factors below 2^126.
 pub fn read_step(alloc: Global, line: &[u8]) -> Result<Step, StepFault>
+    // The step is the one that the line's definition gives.
     ensures ok { IfOk result (λ step. step_of line.now ≡ Ok step) }
+    // A line can say it: its numbers are within all limits.
     ensures sayable { IfOk result IsSayable }
+    // It meets what rules require of a step.
     ensures spelled { IfOk result IsSpelled }
+    // A fault is `NoMemory`, or the line's first with its column and what was expected there or which limit it passes.
     ensures fault { IfErr result (IsFaultOf (step_of line.now)) }
 {
     read_either(alloc, line)

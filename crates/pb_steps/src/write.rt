@@ -105,7 +105,9 @@ fn push_line(out: &mut Vec<u8>, step: &Step) -> Result<(), AllocError>
 
 /// Appends the one line that says a step, with its LF. Where memory is wanting, the bytes stay as they were.
 pub fn write_step(_alloc: Global, step: &Step, out: &mut Vec<u8>) -> Result<(), NoMemory>
+    // The step's one canonical line and LF were appended.
     ensures ok { OnOk result (out.new.items ≡ out.old.items ++ step_line step.now ++ codes "\n") }
+    // After `NoMemory` the bytes are as they were.
     ensures err { OnErr result (out.new.items ≡ out.old.items) }
 {
     let before = out.len();

@@ -1,5 +1,9 @@
 -- Totalizers in both directions (Bailleux and Boufkhad 2003), of literals of which exactly so many are to be true: the outputs of
 -- a node say how many of its leaves are true, up to one more than the bound.
+-- The two halves of an equality are one pair. Propagation is proved of each half and of both together. If no assignment under the
+-- given literals meets both, then one half alone has none, since between one with too few true literals and one with too many there
+-- is one with exactly so many; so the terms are not looked at for that. A clause from outputs to parts follows from the reifications
+-- read the other way: a false output says how many leaves are false, and the sum of the negated leaves reaches the rest.
 use Rattle.std.specs.Prelude.{◌≡◌, ◌+◌, ℕ, List, [], ◌∷◌, ◌++◌, length, map, nat_lt, sum_by, count_by, if◌then◌else◌}
 use Rattle.std.specs.List.{filter, flat_map, range_with_len}
 use Rattle.pb_base.specs.declared.literal.Lit.{Lit}

@@ -1,4 +1,7 @@
 //! Exactly so many of some literals, by a totalizer in both directions.
+//!
+//! `build` requires fewer than 2^31 literals, since that its counts fit 64 bits depends on it. It follows if the variables differ,
+//! and every constraint in memory shows it.
 ghost use Rattle.std.specs.Prelude.{◌≡◌, ◌<◌, ◌^◌, IsTrue, length, map, IfOk};
 ghost use Rattle.pb_norm.specs.Constraints.{weights};
 ghost use Rattle.pb_norm.specs.BoundedSums.{IsProper, sum_within};
@@ -57,12 +60,19 @@ impl Exact {
         requires some { 1 ≤ number }
         requires not_all { number < length lits.now }
         requires few { length lits.now < 2 ^ 31 }
+        // The budget is passed iff the fresh variables are more.
         ensures over { IfOk result (λ built. IsOverExactly (exact_fresh (literals_within lits.now number)) budget built) }
+        // The upper sum is that at most so many of the literals are true.
         ensures most { IfOk result (λ built. IfFits (λ t. ⟦<Exact as Pair>⟧.most t ≡ literals_within lits.now number) built) }
+        // The lower sum is that at least so many are.
         ensures least { IfOk result (λ built. IfFits (λ t. ⟦<Exact as Pair>⟧.least t ≡ at_least (literals_within lits.now number)) built) }
+        // The number of fresh variables is the defined one.
         ensures fresh { IfOk result (λ built. IfFits (λ t. ⟦<Exact as Pair>⟧.fresh_count t ≡ exact_fresh (literals_within lits.now number)) built) }
+        // The number of clauses is the defined one.
         ensures clauses { IfOk result (λ built. IfFits (λ t. ⟦<Exact as Pair>⟧.clause_count t ≡ exact_size (literals_within lits.now number)) built) }
+        // The clauses are those of the totalizer in both directions.
         ensures list { IfOk result (λ built. IfFits (λ t. (first : ℕ) → ⟦<Exact as Pair>⟧.clause_list t first ≡ exact_clauses (literals_within lits.now number) first) built) }
+        // From any given literals, propagation reaches each output of each node whose leaves decide it, either way, or a conflict.
         ensures outputs { IfOk result (λ built. IfFits (λ t. (first : ℕ) → ReachesOutputs (exact_clauses (literals_within lits.now number) first) (literals_within lits.now number) first) built) }
     {
         let terms = unit_terms(alloc, lits.as_slice())?;

@@ -12,6 +12,7 @@ use std::alloc::Global;
 /// Whether propagation over constraints reaches a conflict. Memory and time go by the number of their terms, not by the numbers
 /// of their variables.
 pub fn is_conflicting(alloc: Global, forms: &Constraints) -> Result<bool, NoMemory>
+    // The answer is true iff propagation over the constraints reaches a conflict.
     ensures { IfOk result (λ found. MatchBool found (Conflict forms.now []) (¬ Conflict forms.now [])) }
 {
     let names = Names::of(alloc, forms, &[])?;

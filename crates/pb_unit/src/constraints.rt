@@ -1,4 +1,9 @@
 //! Lists of constraints.
+//!
+//! A list has the form in which the engine stores constraints: a clause is a slot, and its literals in one flat array; any other
+//! constraint has memory of its own, which is given back when it is removed. So what is read from a file enters the engine without a
+//! copy, and nothing is held twice. A clause of three literals takes about 100 bytes, its counters and its part of the index
+//! included.
 ghost use Rattle.std.specs.Prelude.{◌≡◌, ◌≤◌, ◌<◌, ◌^◌, ◌++◌, ◌∷◌, [], Some, if◌then◌else◌, IfOk, IsErr, IsTrue, OnOk, All, length, map};
 ghost use Rattle.pb_norm.specs.ClauseForm.{clause_form};
 ghost use Rattle.pb_norm.specs.Constraints.{IsAscending, IsLinear};
@@ -61,6 +66,7 @@ impl Constraints {
 
     /// The constraints of a vector.
     pub fn from_vec(alloc: Global, constraints: Vec<Linear>) -> Result<Constraints, NoMemory>
+        // The list is the vector's constraints.
         ensures { IfOk result (λ list. list ≡ constraints.items) }
     {
         let mut list = Constraints::new(alloc);
@@ -72,7 +78,9 @@ impl Constraints {
 
     /// Adds a constraint at the end.
     pub fn push(&mut self, constraint: &Linear) -> Result<(), NoMemory>
+        // On success the constraint is at the end.
         ensures ok { OnOk result (self.new ≡ self.old ++ constraint.now ∷ []) }
+        // After `NoMemory` the list is as it was.
         ensures refused { IsErr result → self.new ≡ self.old }
     {
         let _ = constraint.degree();
@@ -91,7 +99,9 @@ impl Constraints {
 
     /// Adds the form of a clause at the end. Where the variables of its literals ascend, as mostly, they are copied as they are.
     pub fn push_clause(&mut self, clause: &[Lit]) -> Result<(), NoMemory>
+        // On success the clause's form is at the end.
         ensures ok { OnOk result (self.new ≡ self.old ++ clause_form clause.now ∷ []) }
+        // After `NoMemory` the list is as it was.
         ensures refused { IsErr result → self.new ≡ self.old }
     {
         if self.push_ascending(clause) {
@@ -104,6 +114,7 @@ impl Constraints {
 
     /// How many constraints there are.
     pub fn len(&self) -> usize
+        // The number is that of the constraints.
         ensures { result ≡ length self.now }
     {
         self.places.len()
@@ -111,6 +122,7 @@ impl Constraints {
 
     /// How many literals the clauses among them have: no more than all of them.
     pub fn clause_lits(&self) -> usize
+        // The number is at most that of all terms.
         ensures { result ≤ lit_count self.now }
     {
         self.places.clause_lits()
@@ -129,6 +141,7 @@ impl Constraints {
     /// The terms of the constraint at a place, which are written over others, and its degree.
     pub fn read(&self, place: usize, terms: &mut Vec<Term>) -> Result<u128, NoMemory>
         requires { place < length self.now }
+        // The terms and the degree are those of the constraint with this index.
         ensures { IfOk result (λ degree. IsRead self.now place terms.new.items degree) }
     {
         let degree = self.places.read(place, terms)?;

@@ -1,4 +1,11 @@
 //! Assumed literals, and what constraints make of them.
+//!
+//! After a conflict each further `propagate` answers `Conflict` at once, until `reset`: assumptions are only added meanwhile, and a
+//! conflict of fewer assumed literals is one of more (`a_conflict_stays`). What was reached remains true: without the clauses `kept`
+//! and `shown`, a body that forgets it at a conflict would meet the contract.
+//!
+//! The contract speaks of reached lists of literals, in any order. So rounds over all constraints would meet it too; counters, index
+//! and queue are a matter of this crate alone.
 ghost use Rattle.std.specs.Prelude.{◌≡◌, ◌≤◌, ◌<◌, if◌then◌else◌, not, true, is_some, IfOk, IsErr};
 ghost use Rattle.pb_norm.specs.Constraints.{HasVarsWithin, AreVarsWithin};
 ghost use Rattle.pb_base.specs.Literals.{negated, is_among};
@@ -62,6 +69,7 @@ impl Engine {
     /// An engine over constraints whose variables are at most `vars`. Nothing is assumed. All memory that later calls need is taken here.
     pub fn new(alloc: Global, vars: u32, constraints: Vec<Linear>) -> Result<Engine, NoMemory>
         requires within { AreVarsWithin vars constraints.items }
+        // The engine has the vector's constraints at the places 0, 1, .., and nothing is assumed or true.
         ensures start { IfOk result (λ engine. engine ≡ started vars constraints.items) }
     {
         Engine::over(alloc, vars, Constraints::from_vec(alloc, constraints)?)
@@ -70,6 +78,7 @@ impl Engine {
     /// The same over a list, which the engine keeps as it is: no constraint is copied.
     pub fn over(alloc: Global, vars: u32, constraints: Constraints) -> Result<Engine, NoMemory>
         requires within { AreVarsWithin vars constraints }
+        // The engine has the list's constraints at the places 0, 1, .., and nothing is assumed or true.
         ensures start { IfOk result (λ engine. engine ≡ started vars constraints) }
     {
         let places = constraints.into_places();
@@ -86,7 +95,9 @@ impl Engine {
 
     /// Whether a literal holds.
     pub fn holds(&self, lit: Lit) -> bool
+        // The answer is true iff the literal is true.
         ensures answer { result ≡ is_among self.now.held lit }
+        // The true literals are one reached list, no two of them opposite.
         ensures reached { IsReached self.now }
     {
         self.queue.held.holds(&lit)
@@ -95,8 +106,11 @@ impl Engine {
     /// Assumes a literal, unless its negation holds.
     pub fn assume(&mut self, lit: Lit) -> bool
         requires within { lit.var ≤ self.old.vars }
+        // The answer is false iff the negation is true.
         ensures answer { result ≡ not (is_among self.old.held (negated lit)) }
+        // If the answer is false, nothing changed; else the literal is assumed, and true.
         ensures after { self.new ≡ (if result then assumed lit self.old else self.old) }
+        // The true literals are one reached list, with each assumed literal in it.
         ensures reached { IsReached self.new }
     {
         if self.queue.held.holds(&lit.not()) {
@@ -109,10 +123,16 @@ impl Engine {
 
     /// Has all literals hold that are reached, or finds a conflict.
     pub fn propagate(&mut self) -> Outcome
+        // Only which literals are true may change.
         ensures same { self.new ≡ record self.old { held = self.new.held } }
+        // `Conflict` is answered iff the live constraints and the assumed literals have one. After `Fixed` a literal is true iff it is in
+        // some reached list.
         ensures answer { AnswersOf self.new result }
+        // At a conflict the constraint at the place has a negative slack under the true literals.
         ensures shown { Ends self.new.places self.new.held result }
+        // What was true remains true.
         ensures kept { (l : Lit) → is_among self.old.held l ≡ true → is_among self.new.held l ≡ true }
+        // The true literals are one reached list, with each assumed literal in it.
         ensures reached { IsReached self.new }
     {
         self.queue.propagate()
@@ -120,6 +140,7 @@ impl Engine {
 
     /// Takes all assumptions back.
     pub fn reset(&mut self)
+        // Nothing is assumed or true.
         ensures after { self.new ≡ cleared self.old }
     {
         self.queue.rewind();
@@ -130,7 +151,9 @@ impl Engine {
     /// Adds a constraint, and takes all assumptions back. Its place is one that was free.
     pub fn add(&mut self, constraint: &Linear) -> Result<u64, NoMemory>
         requires within { HasVarsWithin self.old.vars constraint.now.terms }
+        // On success the constraint is live at a place that was free, and nothing is assumed or true.
         ensures ok { IfOk result (λ place. IsFree self.old place × (self.new ≡ added place constraint.now self.old)) }
+        // After `NoMemory` nothing changed.
         ensures refused { IsErr result → self.new ≡ self.old }
     {
         let copy = constraint.copy(self.alloc)?;
@@ -152,7 +175,9 @@ impl Engine {
 
     /// Removes what stands at the place, and takes all assumptions back. Whether there was a constraint.
     pub fn remove(&mut self, place: u64) -> bool
+        // The answer is true iff a constraint was live at the place.
         ensures answer { result ≡ is_some (at_place self.old.places place) }
+        // If it was, none is live there any more, and nothing is assumed or true; else nothing changed.
         ensures after { self.new ≡ (if result then removed place self.old else self.old) }
     {
         let place = place as usize;
@@ -168,6 +193,7 @@ impl Engine {
 
     /// By how much what the constraint at the place can still add is above its degree.
     pub fn slack(&self, place: u64) -> Option<i128>
+        // The number is the slack of the constraint at the place under the true literals; there is none iff none is live there.
         ensures { result ≡ slack_at self.now place }
     {
         let place = place as usize;
@@ -178,6 +204,7 @@ impl Engine {
 
     /// The literals that hold. The constraints are let go.
     pub fn into_held(self) -> Rounds
+        // The literals are those that are true.
         ensures { result ≡ record { vars = self.vars; lits = self.held } }
     {
         let Engine {

@@ -1,4 +1,14 @@
-//! The index of the first constraints, a range of literals at a time, so that what is written lies close together.
+//! The index of the constraints that an engine begins with, filled for one range of literals after another.
+//!
+//! In one flat array, each literal has a section with the places of the constraints in which it has the coefficient 1, four bytes
+//! each. Filled constraint by constraint, nearly each write would touch another part of many megabytes, and waiting for memory was
+//! most of the time of a large CNF. So all constraints and their rooms are stored first. Then they are read once for each of at most
+//! 16 ranges of literals, and what is written meanwhile lies within some megabytes.
+//!
+//! The sections have the lengths that a count of the literals gives. If a count were wrong, a section would be full, and further
+//! occurrences would enter a list of the literal's own, as coefficients other than 1 do. So counts and ranges are hints, and no proof
+//! needs them to be right. What is proved is that a literal's occurrences at a place add up to its coefficient there, in whatever
+//! order and list they are.
 ghost use Rattle.std.specs.Prelude.{◌≡◌, ◌<◌, ◌+◌, ◌*◌, [], map, length, All, IfOk};
 ghost use Rattle.std.specs.Bool.{OnTrue};
 ghost use Rattle.pb_base.specs.declared.literal.Lit.{Lit};

@@ -1,4 +1,17 @@
-//! What removed constraints have left behind, and places that are free.
+//! What removed constraints leave behind in the index, when it is swept, and which places are free.
+//!
+//! When a constraint is removed, its occurrences should be too; but to search the long lists of common literals for them would cost
+//! more than the constraint's length. Mostly what is removed came late: the negation of a claim, listed constraints, a long sum that
+//! the next one replaces. Such occurrences are in lists of the literals' own, outside the sections that were filled at first. So only
+//! the newest eight of each of these lists are searched. If all are found, nothing remains, and the place is free at once.
+//!
+//! Else terms remain at a place that has no constraint. They do no harm: they lower a room that decides nothing, and the index is
+//! right with any of them. They are counted. Once they are more than the places that there were at first, and later than half of what
+//! the last sweep walked, one walk over the index removes them, without allocating (`sweep` in `store`). The list of tight places is
+//! swept when more than half of it is garbage. So over a sequence of calls adding and removing cost the constraints' lengths, however
+//! much else is live.
+//!
+//! All numbers here are hints, and no proof needs them to be right: `free_place` tests that a place has no constraint and the room 0.
 ghost use Rattle.std.specs.Prelude.{◌≡◌, ◌≤◌, ◌<◌, length, None};
 ghost use Rattle.std.specs.Bool.{OnTrue};
 ghost use Rattle.pb_unit.specs.States.{at_place};

@@ -1,4 +1,9 @@
-//! Variables by their places among those that occur, so that tables over them are no longer than the text.
+//! Variables by their ranks among those that occur, so that tables over them are no longer than the text.
+//!
+//! If the greatest variable is at most the number of literals, of constraints and given, tables are over the variables as they are.
+//! Else each variable is replaced by its rank among those that occur, and the answer is translated back. Ranks ascend with the
+//! variables, so terms stay in normal form, and the answer ascends too. That propagation reaches the same over other numbers is a
+//! lemma over plain lists. A given literal whose variable no clause has is reached, and nothing follows from it.
 ghost use Rattle.std.specs.Prelude.{◌≡◌, ◌≤◌, ◌<◌, ◌+◌, ◌^◌, ◌++◌, ◌∷◌, [], ℕ, length, map, All, Contains, IfOk, OnOk};
 ghost use Rattle.pb_norm.specs.Constraints.{constraint_of, weights, AreUnsigned, IsLinear};
 ghost use Rattle.pb_unit.specs.Reaching.{IsUpTo, OfConstraint, OfLit};

@@ -1,4 +1,13 @@
-//! Passes over all constraints, for which no index is needed.
+//! Propagation by passes over all constraints, which need no index.
+//!
+//! To make an engine's index takes as long as some eight passes. So up to eight are made first (`MOST_PASSES`), each from what the
+//! last one reached: in the order of the places, each constraint makes the literals true that it needs. If a pass adds none, that is
+//! the end, since each constraint was visited with all that is true; if a constraint has too little room, that is a conflict. Only if
+//! literals are still added in the eighth pass does the caller make an engine, from the given literals on. So no order of the
+//! constraints costs more than about twice the time.
+//!
+//! Clauses from encoders mostly end after few passes, since a clause comes after those from which its literals follow. And most
+//! clauses need nothing: two literals that are not false show it, and the others are not looked at (`is_easy`).
 ghost use Rattle.std.specs.Prelude.{◌≡◌, ◌≤◌, ◌+◌, ◌^◌, [], ℕ, List, Option, All, length, IsNone, IfSome};
 ghost use Rattle.std.specs.Bool.{OnTrue, OnFalse};
 ghost use Rattle.pb_base.specs.declared.literal.Lit.{Lit};

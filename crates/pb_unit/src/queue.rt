@@ -1,4 +1,24 @@
-//! Propagation with kept rooms, occurrences of literals and a queue.
+//! Unit propagation with a counter for each constraint, an index of literals, and a queue.
+//!
+//! The room of a constraint is the sum of the coefficients of its literals that are not false: what its left side can still reach.
+//! Its slack is the room less the degree. If the room is below the degree, the constraint is in conflict. Else it needs each literal
+//! that is neither true nor false and whose coefficient is above the slack. Rooms are stored, and not slacks, since a room is a
+//! natural number.
+//!
+//! The literals that are true form one list, the oldest first (`held`). The first `counted` of them have lowered the room of each
+//! constraint with their negation; the others are the queue, so there is no second list. Propagation takes the next one, walks the
+//! list of its negation in the index, and lowers each room by the coefficient there. A constraint's terms are looked at only if its
+//! room falls below its alert, the degree and the greatest coefficient together: from there on up it needs nothing, whatever is true.
+//! What it needs is added at the end of the list of true literals, so the queue grows while it is worked off.
+//!
+//! Three things need care.
+//!
+//! - A constraint may need literals before any is true. If its room is below its alert from the start, it is listed when it is
+//!   added (`tight`), and propagation begins with these (`Unpropagated`).
+//! - After a conflict the rooms of the rest of the literal's list are lowered all the same, so each true literal was counted in all
+//!   rooms or in none. The place of the conflict is remembered (`Conflicting`), since more assumptions cannot undo it.
+//! - `reset`, `add` and `remove` take all assumptions back: `rewind` raises the rooms of what was counted, the newest literal
+//!   first, in the time that lowering them took. So no list of true literals has to be unwound past a change of the constraints.
 ghost use Rattle.std.specs.Prelude.{◌≡◌, ◌≤◌, ◌<◌, ◌+◌, ◌∷◌, [], ℕ, List, length, map, All, IfOk, IfSome, IsNone};
 ghost use Rattle.std.specs.Bool.{OnTrue, OnFalse};
 ghost use Rattle.pb_base.specs.declared.literal.Lit.{Lit};

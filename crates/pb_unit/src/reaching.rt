@@ -1,4 +1,8 @@
 //! What given literals reach over clauses.
+//!
+//! Each given literal is needed once, by variable, and two opposite ones are a conflict. The form of a clause has its literals so,
+//! and the degree 0 if a variable occurs both ways. So the given literals are sorted by `clause_form`, whose contract says all that
+//! is needed.
 ghost use Rattle.std.specs.Prelude.{◌≡◌, ◌≤◌, ◌<◌, ◌+◌, ◌^◌, ◌++◌, [], All, IfOk, IfSome, OnOk};
 ghost use Rattle.std.specs.Option.{MatchOption};
 ghost use Rattle.pb_norm.specs.ClausePropagation.{ClauseConflict};
@@ -157,6 +161,7 @@ fn reached_by_places(
 /// The greatest variable of constraints and of literals, or a number that is no less, where tables up to it have no more entries
 /// than there are literals in all; else none, and it is for the variables to be numbered anew.
 pub fn modest_greatest(forms: &Constraints, given: &[Lit]) -> Option<u32>
+    // If a number is answered, each variable is at most it, and tables up to it have no more entries than there are literals.
     ensures { IfSome result (FitsTables forms.now given.now) }
 {
     let most = forms.greatest(greatest(given));
@@ -189,6 +194,7 @@ pub fn reached_literals(
     forms: Constraints,
     lits: &Lits,
 ) -> Result<Option<Vec<Lit>>, NoMemory>
+    // The answer is none iff the clauses and the given literals have a conflict; else the literals that propagation reaches, ascending.
     ensures { OfClauses forms (λ cs. IfOk result (λ found. MatchOption found (ClauseConflict cs lits.now) (λ v. AreReached cs lits.now v.items))) }
 {
     let Some(sorted) = sorted_literals(alloc, lits)? else {

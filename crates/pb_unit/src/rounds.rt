@@ -45,6 +45,7 @@ impl Model for Rounds {
 impl Rounds {
     /// No literal holds, of variables up to a number. All memory that later calls need is taken here.
     pub fn new(alloc: Global, vars: u32) -> Result<Rounds, NoMemory>
+        // No literal is true.
         ensures { IfOk result (λ rounds. rounds ≡ record { vars = vars; lits = [] }) }
     {
         let held = Trail::new(alloc, vars)?;
@@ -60,6 +61,7 @@ impl Rounds {
 
     /// Whether a literal holds.
     pub fn holds(&self, lit: Lit) -> bool
+        // The answer is true iff the literal is true.
         ensures { result ≡ is_among self.now.lits lit }
     {
         self.held.holds(&lit)
@@ -67,6 +69,7 @@ impl Rounds {
 
     /// How many literals hold.
     pub fn len(&self) -> usize
+        // The number is that of the true literals.
         ensures { result ≡ length self.now.lits }
     {
         self.held.len()
@@ -74,6 +77,7 @@ impl Rounds {
 
     /// Has no literal hold.
     pub fn clear(&mut self)
+        // No literal is true.
         ensures { self.new ≡ record self.old { lits = [] } }
     {
         self.held.clear();
@@ -83,8 +87,11 @@ impl Rounds {
     pub fn show(&mut self, constraint: &Linear) -> bool
         requires within { HasVarsWithin self.old.vars constraint.now.terms }
         ensures vars { self.new.vars ≡ self.old.vars }
+        // What becomes true is reached by propagation over each list that has the constraint, if what was true before is.
         ensures advances { (cs : List Constraint) (given : List Lit) → Contains cs constraint.now → Advances cs given self.old.lits self.new.lits }
+        // After true the constraint needs no literal more.
         ensures calm { OnTrue result (IsCalm (room self.old.lits constraint.now.terms) self.new.lits constraint.now) }
+        // After false its terms cannot reach its degree.
         ensures short { OnFalse result (room self.new.lits constraint.now.terms < constraint.now.degree) }
     {
         let left = room_under(constraint, &self.held);
@@ -98,8 +105,11 @@ impl Rounds {
         requires given { All (λ l. l.var ≤ self.old.vars) given.now }
         requires consistent { IsConsistent given.now }
         ensures vars { self.new.vars ≡ self.old.vars }
+        // An outcome is the one that propagation over the list, from the given literals, has.
         ensures answer { IfSome result (AnswersOf (given_over constraints.now given.now self.new)) }
+        // The true literals are one reached list from the given ones, whatever was true before.
         ensures reached { IsReached (given_over constraints.now given.now self.new) }
+        // If there is no outcome, at least eight literals are true.
         ensures more { IsNone result → 8 ≤ length self.new.lits }
     {
         self.held.clear();

@@ -2,11 +2,29 @@
 #![tactic(auto)]
 
 use pb_files::{Host, RealDesk};
-use pb_suite::run_program;
+use pb_suite::{Diagnostics, run_program};
+use std::fmt::Display;
 use std::process::ExitCode;
+
+// Standard error. The system does not say what it took.
+#[derive(Drop)]
+struct StandardError<'a, R: Eprint> {
+    system: &'a R,
+}
+
+impl<R: Eprint> Diagnostics for StandardError<'_, R> {
+    ghost use Rattle.std.specs.Prelude.{None};
+
+    ghost told = { λ _. None };
+
+    fn line<L: Display + Drop>(&mut self, line: L) {
+        // Where it is closed, the exit status still tells.
+        let _ = self.system.eprintln(line);
+    }
+}
 
 fn main(rt: HostRuntime) -> ExitCode {
     // Before all else, since it takes the numbers of standard streams that are closed.
     let mut desk = RealDesk::new(Host::new(&rt));
-    run_program(&rt, &mut desk)
+    run_program(&rt, &mut desk, &mut StandardError { system: &rt })
 }

@@ -4,16 +4,11 @@ use Rattle.std.proofs.Math.Dec.{T, eqb, eqb_refl}
 use Rattle.std.specs.Prelude.{◌==◌, ◌&&◌, option_and_then, if◌then◌else◌}
 use Rattle.std.specs.Option.{option_map}
 use Rattle.pb_base.specs.declared.expected.Expected.{Expected}
-use Rattle.pb_base.specs.declared.expected.Expected.TheVariants as expected
 use Rattle.pb_base.specs.declared.file.File.{File}
-use Rattle.pb_base.specs.declared.file.File.TheVariants as file
 use Rattle.pb_base.specs.declared.limit.LimitKind.{LimitKind}
-use Rattle.pb_base.specs.declared.limit.LimitKind.TheVariants as limit
 use Rattle.pb_base.specs.declared.place.Place.{Place}
 use Rattle.pb_steps.specs.declared.denied.Denied.{Denied}
-use Rattle.pb_steps.specs.declared.denied.Denied.TheVariants as denied
 use Rattle.pb_lrat.specs.declared.denied.LratDenied.{LratDenied}
-use Rattle.pb_lrat.specs.declared.denied.LratDenied.TheVariants as lrat
 use Rattle.pb_suite.specs.declared.outcome.Outcome.{Outcome}
 use Rattle.pb_suite.specs.declared.outcome.Outcome.TheVariants as outcome
 use Rattle.pbcnf_c.specs.declared.refusal.PbcnfRefusal.{PbcnfRefusal}

@@ -1,10 +1,11 @@
 -- What the call that says a refusal in words answers. Our own.
-use Rattle.std.specs.Prelude.{ℕ, ◌≡◌, ◌≢◌, ◌≤◌, ◌<◌, ◌^◌, List, [], length, Option, Some, None}
+use Rattle.std.specs.Prelude.{ℕ, ◌≡◌, ◌≢◌, ◌≤◌, ◌<◌, ◌^◌, List, length, Option, Some, None}
 use Rattle.pb_base.specs.declared.place.Place.{Place}
 use Rattle.pb_steps.specs.declared.denied.Denied.{Denied}
 use Rattle.pb_steps.specs.declared.denied.Denied.TheVariants as denied
 use Rattle.pb_suite.specs.declared.outcome.Outcome.{Outcome}
 use Rattle.pb_suite.specs.declared.outcome.Outcome.TheVariants as outcome
+use Rattle.pb_suite.specs.FaultLines.{outcome_words}
 use Rattle.pb_suite.specs.Statuses.{status_of}
 use Rattle.pbcnf_c.specs.declared.refusal.PbcnfRefusal.{PbcnfRefusal}
 use Rattle.pbcnf_c.specs.Refusals.{refusal_of}
@@ -35,11 +36,11 @@ IsProper other = Unit {0}
 
 -- ---- the call
 
--- The words are those of the outcome that has these numbers: what the program prints of it, which no clause spells out, and none where all was done.
+-- The words are those of an outcome that has these numbers, which the program tells in the same words.
 pub record AreWordsOf (refusal : PbcnfRefusal) (words : List ℕ) (count : ℕ) : Type 0 where
   pub told : Outcome
   pub has_numbers : refusal ≡ refusal_of told
-  pub silent : told ≡ outcome.Done → words ≡ []
+  pub words_are : words ≡ outcome_words told
   pub count_is : count ≡ length words
 
 -- no call has these numbers, or memory was wanting

@@ -21,6 +21,7 @@ mod statement;
 mod weighing;
 mod words;
 
+ghost use Rattle.std.specs.Prelude.{◌≡◌};
 ghost use Rattle.pbcnf_c.specs.Bounds.{BoundsInto};
 ghost use Rattle.pbcnf_c.specs.Choices.{bound_of};
 ghost use Rattle.pbcnf_c.specs.Checks.{Checks, Refutes};
@@ -44,6 +45,28 @@ use std::alloc::Global;
 use weighing::weigh_into;
 use words::words_into;
 
+// 0.3.0, a byte for each of its numbers.
+const VERSION: u32 = 0x00_03_00;
+
+// Which calls and structs there are: one more where a struct, a number or what a call means becomes another.
+const ABI: u32 = 1;
+
+/// The version of the library: a byte for each of its three numbers.
+#[unsafe(no_mangle)]
+pub extern "C" fn pbcnf_version() -> u32
+    ensures { result ≡ 768 }
+{
+    VERSION
+}
+
+/// Which structs and numbers the calls have, so that a program refuses a library of others.
+#[unsafe(no_mangle)]
+pub extern "C" fn pbcnf_abi() -> u32
+    ensures { result ≡ 1 }
+{
+    ABI
+}
+
 /// The CNF text of an OPB text.
 #[unsafe(no_mangle)]
 pub extern "C" fn pbcnf_encode(
@@ -55,6 +78,8 @@ pub extern "C" fn pbcnf_encode(
     size: &mut PbcnfSize,
     refusal: &mut PbcnfRefusal,
 ) -> u8
+    // The call ends as its status says: the CNF text that `encode` makes is at the front of the room, or the room is too small, or the
+    // cause is the one that is there.
     ensures { Tells (EncodesInto options.now (bound_of bound.now) opb.now cnf.old cnf.new size.new) result refusal.new }
 {
     let ending = encode_into(alloc, opb, options, bound, cnf);
@@ -73,6 +98,8 @@ pub extern "C" fn pbcnf_clauses(
     size: &mut PbcnfSize,
     refusal: &mut PbcnfRefusal,
 ) -> u8
+    // The call ends as its status says: the integers of the problem's clauses, each with a 0 after it, are at the front of the room, or
+    // the room is too small, or the cause is the one that is there.
     ensures { Tells (HandsInto options.now (bound_of bound.now) opb.now integers.old integers.new size.new) result refusal.new }
 {
     let ending = clauses_into(alloc, opb, options, bound, integers);
@@ -91,6 +118,8 @@ pub extern "C" fn pbcnf_derive(
     size: &mut PbcnfSize,
     refusal: &mut PbcnfRefusal,
 ) -> u8
+    // The call ends as its status says: the derivation that `encode` writes is at the front of the room, or the room is too small, or the
+    // cause is the one that is there.
     ensures { Tells (DerivesInto options.now (bound_of bound.now) opb.now proof.old proof.new size.new) result refusal.new }
 {
     let ending = derive_into(alloc, opb, options, bound, proof);
@@ -109,6 +138,8 @@ pub extern "C" fn pbcnf_bounds(
     size: &mut PbcnfSize,
     refusal: &mut PbcnfRefusal,
 ) -> u8
+    // The call ends as its status says: the rows of the table of bounds are at the front of the room, or the room is too small, or the
+    // cause is the one that is there.
     ensures { Tells (BoundsInto options.now (bound_of bound.now) opb.now rows.old rows.new size.new) result refusal.new }
 {
     let ending = bounds_into(alloc, opb, options, bound, rows);
@@ -127,6 +158,8 @@ pub extern "C" fn pbcnf_decode(
     length: &mut u64,
     refusal: &mut PbcnfRefusal,
 ) -> u8
+    // The call ends as its status says: the solution's text is at the front of the room, or the room is too small, or the cause is the
+    // one that is there.
     ensures { Tells (DecodesInto (bound_of bound.now) opb.now model.now said.old said.new length.new) result refusal.new }
 {
     let ending = decode_into(alloc, opb, bound, model, said);
@@ -143,6 +176,8 @@ pub extern "C" fn pbcnf_map(
     length: &mut u64,
     refusal: &mut PbcnfRefusal,
 ) -> u8
+    // The call ends as its status says: a line for each free name is at the front of the room, or the room is too small, or the cause is
+    // the one that is there.
     ensures { Tells (MapsInto opb.now said.old said.new length.new) result refusal.new }
 {
     let ending = map_into(alloc, opb, said);
@@ -161,6 +196,8 @@ pub extern "C" fn pbcnf_wcnf(
     size: &mut PbcnfSize,
     refusal: &mut PbcnfRefusal,
 ) -> u8
+    // The call ends as its status says: the weighted CNF text that `wcnf` makes is at the front of the room, or the room is too small, or
+    // the cause is the one that is there.
     ensures { Tells (WeighsInto options.now (bound_of bound.now) opb.now wcnf.old wcnf.new size.new) result refusal.new }
 {
     let ending = weigh_into(alloc, opb, options, bound, wcnf);
@@ -178,6 +215,8 @@ pub extern "C" fn pbcnf_check(
     proof: &[u8],
     refusal: &mut PbcnfRefusal,
 ) -> u8
+    // The call is done only if the derivation is accepted with the problem and the CNF; else the status is that of the first fault, or of
+    // the first step that is not allowed.
     ensures { Tells (Checks (bound_of bound.now) opb.now cnf.now proof.now) result refusal.new }
 {
     tell(
@@ -197,6 +236,8 @@ pub extern "C" fn pbcnf_refute(
     lrat: &[u8],
     refusal: &mut PbcnfRefusal,
 ) -> u8
+    // The call is done only if besides the LRAT text refutes the CNF's clauses; else the status is that of the first fault, or of the
+    // line that is denied.
     ensures { Tells (Refutes (bound_of bound.now) opb.now cnf.now proof.now lrat.now) result refusal.new }
 {
     tell(
@@ -213,6 +254,7 @@ pub extern "C" fn pbcnf_words(
     said: &mut [u8],
     length: &mut u64,
 ) -> u8
+    // The words are those of an outcome with the refusal's numbers, or no outcome has them.
     ensures { HasStatusOf (SaysRefusal refusal.now said.old said.new length.new) result }
 {
     let ending = words_into(alloc, refusal, said);
@@ -232,6 +274,8 @@ pub extern "C" fn pbcnf_constraint(
     size: &mut PbcnfSize,
     refusal: &mut PbcnfRefusal,
 ) -> u8
+    // The call ends as its status says: the integers of the statement's clauses are at the front of the room, or the room is too small,
+    // or the cause is the one that is there.
     ensures { Tells (ConstrainsInto options.now coefficients.now literals.now side.now integers.old integers.new size.new) result refusal.new }
 {
     let asked = Asked {
@@ -256,6 +300,8 @@ pub extern "C" fn pbcnf_constraint_derive(
     size: &mut PbcnfSize,
     refusal: &mut PbcnfRefusal,
 ) -> u8
+    // The call ends as its status says: the derivation of the statement's clauses is at the front of the room, or the room is too small,
+    // or the cause is the one that is there.
     ensures { Tells (ConstraintDerivesInto options.now coefficients.now literals.now side.now proof.old proof.new size.new) result refusal.new }
 {
     let asked = Asked {

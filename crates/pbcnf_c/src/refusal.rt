@@ -49,24 +49,77 @@ fn blank(status: u8) -> PbcnfRefusal
     }
 }
 
-// The numbers of these three are their places in the order of the type, from 1.
+// The numbers of these three are those of the header, which stay whatever is put into the types.
 
 fn file_number(file: File) -> u32
     ensures { result ≡ file_number file }
 {
-    file as u32 + 1
+    match file {
+        File::Opb => 1,
+        File::Cnf => 2,
+        File::Proof => 3,
+        File::Model => 4,
+        File::Lrat => 5,
+    }
 }
 
 fn limit_number(which: LimitKind) -> u32
     ensures { result ≡ limit_number which }
 {
-    which as u32 + 1
+    match which {
+        LimitKind::Text => 1,
+        LimitKind::Statements => 2,
+        LimitKind::Terms => 3,
+        LimitKind::Weight => 4,
+        LimitKind::Bounds => 5,
+        LimitKind::Variables => 6,
+        LimitKind::Clauses => 7,
+        LimitKind::Line => 8,
+        LimitKind::Lines => 9,
+        LimitKind::Number => 10,
+        LimitKind::Name => 11,
+    }
 }
 
 fn expected_number(expected: Expected) -> u32
     ensures { result ≡ expected_number expected }
 {
-    expected as u32 + 1
+    match expected {
+        Expected::Start => 1,
+        Expected::Next => 2,
+        Expected::TermOrRelation => 3,
+        Expected::TermOrSemicolon => 4,
+        Expected::Literal => 5,
+        Expected::Integer => 6,
+        Expected::Semicolon => 7,
+        Expected::PLine => 8,
+        Expected::CnfWord => 9,
+        Expected::VarCount => 10,
+        Expected::ClauseCount => 11,
+        Expected::LineEnd => 12,
+        Expected::ClauseWord => 13,
+        Expected::CnfEnd => 14,
+        Expected::ModelLine => 15,
+        Expected::ModelLiteral => 16,
+        Expected::Opposite => 17,
+        Expected::ModelZero => 18,
+        Expected::Head => 19,
+        Expected::Loaded => 20,
+        Expected::LoadedCount => 21,
+        Expected::StepWord => 22,
+        Expected::Operand => 23,
+        Expected::Factor => 24,
+        Expected::Term => 25,
+        Expected::Id => 26,
+        Expected::SetVar => 27,
+        Expected::Arrow => 28,
+        Expected::Bit => 29,
+        Expected::DerivationEnd => 30,
+        Expected::LratId => 31,
+        Expected::LratLiteral => 32,
+        Expected::LratHint => 33,
+        Expected::LratEnd => 34,
+    }
 }
 
 // The reason, and what it names.

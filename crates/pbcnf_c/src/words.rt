@@ -14,9 +14,6 @@ pub fn words_into(alloc: Global, refusal: &PbcnfRefusal, room: &mut [u8]) -> Sai
     let Some(outcome) = outcome_of(refusal) else {
         return silent(Outcome::Usage);
     };
-    if refusal.status == 0 {
-        return spoken(&[], room);
-    }
     match format!(in alloc; "{outcome}") {
         Ok(words) => spoken(words.as_bytes(), room),
         Err(_) => silent(Outcome::NoMemory),

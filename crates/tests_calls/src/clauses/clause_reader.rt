@@ -1,6 +1,7 @@
 // The reader of clauses over a desk in memory.
 ghost use Rattle.std.specs.Prelude.{◌≡◌, ◌<◌, length, None, IsTrue, IfSome};
 ghost use Rattle.pb_desk.specs.Desk.{IsClosed};
+ghost use Rattle.pb_desk.specs.LineReading.{Knows};
 ghost use Rattle.pb_dimacs.specs.CnfReaders.{new_reader};
 
 use crate::cases::{assert_each, assert_found};
@@ -26,8 +27,10 @@ fn push_next<D: Desk>(
     text: &mut String,
 ) -> Option<bool>
     requires open { IsTrue ((D.state desk.old).view.reading reader.old.lines.slot) }
+    requires knows { Knows reader.old.lines.slot reader.old.lines.ahead (D.state desk.old) }
     requires fine { reader.old.fault ≡ None }
     ensures open { IfSome result (λ more. IsTrue more → IsTrue ((D.state desk.new).view.reading reader.new.lines.slot)) }
+    ensures knows { IfSome result (λ more. IsTrue more → Knows reader.new.lines.slot reader.new.lines.ahead (D.state desk.new)) }
     ensures fine { IfSome result (λ more. IsTrue more → reader.new.fault ≡ None) }
 {
     let (line, more) = match reader.next_clause(desk) {
@@ -48,6 +51,7 @@ fn clauses_text<D: Desk>(
     head: CnfHead,
 ) -> Option<String>
     requires open { IsTrue ((D.state desk.old).view.reading reader.old.lines.slot) }
+    requires knows { Knows reader.old.lines.slot reader.old.lines.ahead (D.state desk.old) }
     requires fine { reader.old.fault ≡ None }
 {
     let mut text = format!(in alloc; "{} {} {}", head.vars, head.clauses, head.place.column).ok()?;

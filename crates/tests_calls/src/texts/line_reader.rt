@@ -1,6 +1,7 @@
 // The line reader over a desk in memory, with small limits.
-ghost use Rattle.std.specs.Prelude.{IsTrue};
+ghost use Rattle.std.specs.Prelude.{◌≡◌, IsTrue, None};
 ghost use Rattle.pb_desk.specs.Desk.{IsClosed};
+ghost use Rattle.pb_desk.specs.LineReading.{Knows};
 
 use crate::cases::assert_found;
 use crate::samples::desks::desk_with;
@@ -15,8 +16,10 @@ const AMPLE: LineLimits = LineLimits {
 
 // The next line behind its number, or `end`, or the fault.
 fn next_text<D: Desk>(alloc: Global, reader: &mut LineReader, desk: &mut D) -> Option<String>
-    requires { IsTrue ((D.state desk.old).view.reading reader.old.slot) }
-    ensures { IsTrue ((D.state desk.new).view.reading reader.new.slot) }
+    requires open { IsTrue ((D.state desk.old).view.reading reader.old.slot) }
+    requires knows { reader.old.fault ≡ None → Knows reader.old.slot reader.old.ahead (D.state desk.old) }
+    ensures open { IsTrue ((D.state desk.new).view.reading reader.new.slot) }
+    ensures knows { reader.new.fault ≡ None → Knows reader.new.slot reader.new.ahead (D.state desk.new) }
 {
     match reader.next_line(desk) {
         Ok(true) => {
@@ -35,8 +38,10 @@ fn push_next<D: Desk>(
     desk: &mut D,
     text: &mut String,
 ) -> Option<()>
-    requires { IsTrue ((D.state desk.old).view.reading reader.old.slot) }
-    ensures { IsTrue ((D.state desk.new).view.reading reader.new.slot) }
+    requires open { IsTrue ((D.state desk.old).view.reading reader.old.slot) }
+    requires knows { reader.old.fault ≡ None → Knows reader.old.slot reader.old.ahead (D.state desk.old) }
+    ensures open { IsTrue ((D.state desk.new).view.reading reader.new.slot) }
+    ensures knows { reader.new.fault ≡ None → Knows reader.new.slot reader.new.ahead (D.state desk.new) }
 {
     let next = next_text(alloc, reader, desk)?;
     text.push_str(next.as_str()).ok()?;
@@ -45,7 +50,8 @@ fn push_next<D: Desk>(
 
 // What it answers to four calls.
 fn four<D: Desk>(alloc: Global, reader: &mut LineReader, desk: &mut D) -> Option<String>
-    requires { IsTrue ((D.state desk.old).view.reading reader.old.slot) }
+    requires open { IsTrue ((D.state desk.old).view.reading reader.old.slot) }
+    requires knows { reader.old.fault ≡ None → Knows reader.old.slot reader.old.ahead (D.state desk.old) }
 {
     let mut text = String::new(alloc);
     push_next(alloc, reader, desk, &mut text)?;

@@ -1,5 +1,5 @@
 // The desk of the system, over one that answers by a list, and over real files.
-ghost use Rattle.std.specs.Prelude.{◌≤◌, IfOk};
+ghost use Rattle.std.specs.Prelude.{◌≡◌, ◌≤◌, IsTrue, IfOk};
 ghost use Rattle.pb_desk.specs.Desk.{IsClosed};
 
 use pb_base::Failed;
@@ -88,15 +88,32 @@ impl<'a> System for Scripted<'a> {
 // What four calls of a desk answer: a count of bytes, 0 where there are none to count, or that they fail.
 type Answers = [Option<usize>; 4];
 
+// Reads the next bytes of slot 0 into the room. Behind the end there are none, and nothing is asked for.
+fn read_next<D: Desk>(desk: &mut D, room: &mut [u8], is_over: &mut bool) -> Option<usize>
+    requires open { IsTrue ((D.state desk.old).view.reading 0) }
+    requires knows { (D.state desk.old).ended 0 ≡ is_over.old }
+    ensures open { IsTrue ((D.state desk.new).view.reading 0) }
+    ensures knows { (D.state desk.new).ended 0 ≡ is_over.new }
+    ensures writing { (D.state desk.new).view.writing ≡ (D.state desk.old).view.writing }
+{
+    if *is_over {
+        return Some(0);
+    }
+    let count = desk.read(0, room).ok()?;
+    *is_over = count == 0;
+    Some(count)
+}
+
 // Reads a file three times, and makes one.
 fn reads<D: Desk>(desk: &mut D, from: &str, to: &str) -> Result<Answers, Failed>
     requires { IsClosed (D.state desk.old) }
 {
     let mut room = [0u8; 16];
+    let mut is_over = false;
     desk.open(0, from)?;
-    let first = desk.read(0, &mut room).ok();
-    let second = desk.read(0, &mut room).ok();
-    let third = desk.read(0, &mut room).ok();
+    let first = read_next(desk, &mut room, &mut is_over);
+    let second = read_next(desk, &mut room, &mut is_over);
+    let third = read_next(desk, &mut room, &mut is_over);
     let made = desk.create(0, to).ok().and(Some(0));
     Ok([first, second, third, made])
 }

@@ -9,7 +9,7 @@ pub rows-init : goal.rows-init
 rows-init g c = record {
   goes_on = record { slot = refl; limits = refl; fine = c.requires.fine };
   later = omega arith;
-  reads = reads_begin c.args.lines.now.slot c.args.lines.now.ahead (g.D.Desk.state c.args.desk.now) (SaysSame c.args.lines.now c.args.lines.now) (λ text. refl);
+  reads = reads_begin c.args.lines.now.slot c.args.lines.now.ahead (g.D.Desk.state c.args.desk.now) (SaysSame c.args.lines.now c.args.lines.now) c.requires.knows (λ text. refl);
 }
 
 pub returns-in-Err-clause-stopped : goal.returns-in-Err-clause-stopped

@@ -18,16 +18,16 @@ pub returns-in-Blank-clause-gives : goal.returns-in-Blank-clause-gives
 returns-in-Blank-clause-gives g c =
     let r = c.args.cnf.now in
     reads_begin r.lines.slot r.lines.ahead (g.D.Desk.state c.args.desk.now)
-    (λ text rest. (task : Task) → task.vars ≡ r.vars → TurnGives On task c.args.lines.now.number (turn_by task (at_steps c.args.db.now) (clauses_of r text) c.args.lines.now.number c.args.lines.now.line c.args.step.now) c.args.db.now (clauses_of r rest))
+    (λ text rest. (task : Task) → task.vars ≡ r.vars → TurnGives On task c.args.lines.now.number (turn_by task (at_steps c.args.db.now) (clauses_of r text) c.args.lines.now.number c.args.lines.now.line c.args.step.now) c.args.db.now (clauses_of r rest)) c.requires.knows
     (λ text task vars. subst (λ (s : Step). TurnGives On task c.args.lines.now.number (turn_by task (at_steps c.args.db.now) (clauses_of r text) c.args.lines.now.number c.args.lines.now.line s) c.args.db.now (clauses_of r text)) (sym c.in-Blank.is) (λ rows a w. w))
 
 pub returns-in-Head-clause-stopped : goal.returns-in-Head-clause-stopped
 returns-in-Head-clause-stopped g c =
-    misplaced_step c.args.step.now Head c.misplaced.result c.args.cnf.now c.args.db.now c.args.lines.now (g.D.Desk.state c.args.desk.now) c.in-Head.is c.misplaced.ensures (λ x text. refl)
+    misplaced_step c.args.step.now Head c.misplaced.result c.args.cnf.now c.args.db.now c.args.lines.now (g.D.Desk.state c.args.desk.now) c.requires.knows c.in-Head.is c.misplaced.ensures (λ x text. refl)
 
 pub returns-in-Loaded-clause-stopped : goal.returns-in-Loaded-clause-stopped
 returns-in-Loaded-clause-stopped g c =
-    misplaced_step c.args.step.now _ c.misplaced-in-Loaded.result c.args.cnf.now c.args.db.now c.args.lines.now (g.D.Desk.state c.args.desk.now) c.in-Loaded.is c.misplaced-in-Loaded.ensures (λ x text. refl)
+    misplaced_step c.args.step.now _ c.misplaced-in-Loaded.result c.args.cnf.now c.args.db.now c.args.lines.now (g.D.Desk.state c.args.desk.now) c.requires.knows c.in-Loaded.is c.misplaced-in-Loaded.ensures (λ x text. refl)
 
 pub returns-in-Out-clause-stopped : goal.returns-in-Out-clause-stopped
 returns-in-Out-clause-stopped g c =
@@ -45,11 +45,11 @@ returns-in-Ok-clause-gives g c =
     let n = c.args.lines.now.number in
     let line = c.args.lines.now.line in
     reads_begin r.lines.slot r.lines.ahead (g.D.Desk.state c.args.desk.now)
-    (λ text rest. (task : Task) → task.vars ≡ r.vars → TurnGives c.in-Ok.taken task n (turn_by task (at_steps c.args.db.now) (clauses_of r text) n line c.args.step.now) c.judge.new.db (clauses_of r rest))
+    (λ text rest. (task : Task) → task.vars ≡ r.vars → TurnGives c.in-Ok.taken task n (turn_by task (at_steps c.args.db.now) (clauses_of r text) n line c.args.step.now) c.judge.new.db (clauses_of r rest)) c.requires.knows
     (λ text task vars. rule_given c.args.step.now c.in-Ok.taken task n line c.args.db.now c.judge.new.db r text c.in_default.not-Blank c.in_default.not-Head c.in_default.not-Loaded c.in_default.not-Out c.in_default.not-End c.in-Ok.ensures)
 
 pub returns-in-Blank-clause-keeps : goal.returns-in-Blank-clause-keeps
-returns-in-Blank-clause-keeps g c = rule_keeps On c.args.kept.now c.args.cnf.now (g.D.Desk.state c.args.desk.now) (λ e. cc)
+returns-in-Blank-clause-keeps g c = rule_keeps On c.args.kept.now c.args.cnf.now (g.D.Desk.state c.args.desk.now) c.requires.knows (λ e. cc)
 
 pub returns-in-End-clause-keeps : goal.returns-in-End-clause-keeps
 returns-in-End-clause-keeps g c =
@@ -59,9 +59,9 @@ returns-in-End-clause-keeps g c =
 
 pub returns-in-Ok-clause-keeps : goal.returns-in-Ok-clause-keeps
 returns-in-Ok-clause-keeps g c =
-    rule_keeps c.in-Ok.taken c.args.kept.now c.args.cnf.now (g.D.Desk.state c.args.desk.now) (judged_not_last c.args.db.now c.judge.new.db c.args.step.now None c.in-Ok.taken c.in-Ok.ensures)
+    rule_keeps c.in-Ok.taken c.args.kept.now c.args.cnf.now (g.D.Desk.state c.args.desk.now) c.requires.knows (judged_not_last c.args.db.now c.judge.new.db c.args.step.now None c.in-Ok.taken c.in-Ok.ensures)
 
 pub returns-in-Err-clause-stopped : goal.returns-in-Err-clause-stopped
 returns-in-Err-clause-stopped g c =
     let r = c.args.cnf.now in
-    reads_begin r.lines.slot r.lines.ahead (g.D.Desk.state c.args.desk.now) (λ text rest. Unit {0}) (λ text. tt)
+    reads_begin r.lines.slot r.lines.ahead (g.D.Desk.state c.args.desk.now) (λ text rest. Unit {0}) c.requires.knows (λ text. tt)

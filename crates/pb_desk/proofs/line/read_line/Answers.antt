@@ -40,5 +40,5 @@ returns-in-Err-clause-stopped g c =
 pub returns-in_err-refill-clause-stopped : goal.returns-in_err-refill-clause-stopped
 returns-in_err-refill-clause-stopped g c =
     let line : List ℕ = c.pieces.line.items in
-    let fails = line_fails c.args.left.now c.args.slot line c.args.ahead.now c.pieces.ahead (g.D.Desk.state c.args.desk.now) (g.D.Desk.state c.pieces.desk) (g.D.Desk.state c.refill.new.desk) c.pieces.invariant.in_line c.in_err-refill.ensures.none c.in_err-refill.ensures.not_over c.in_err-refill.ensures.no_end c.pieces.invariant.reads c.in_err-refill.ensures.failed in
+    let fails = line_fails c.args.left.now c.args.slot line c.args.ahead.now c.pieces.ahead (g.D.Desk.state c.args.desk.now) (g.D.Desk.state c.pieces.desk) (g.D.Desk.state c.refill.new.desk) c.pieces.invariant.in_line c.in_err-refill.ensures.none c.in_err-refill.ensures.not_over c.pieces.invariant.reads c.in_err-refill.ensures.failed in
     of_failed c.from_residual.result (StopsLine c.args.left.now c.args.slot c.args.ahead.now c.refill.new.ahead (g.D.Desk.state c.args.desk.now) (g.D.Desk.state c.refill.new.desk)) c.from_residual.ensures.1 fails

@@ -12,4 +12,4 @@ returns-clause-refuted g c =
     c.take_lines.ensures.refuted
 
 pub returns-in_err-checker-clause-stopped : goal.returns-in_err-checker-clause-stopped
-returns-in_err-checker-clause-stopped g c = wants_at_start c.from_residual-in_err-checker.result c.args.slot c.args.vars c.args.clauses (g.D.Desk.state c.args.desk.now) c.from_residual-in_err-checker.ensures.1
+returns-in_err-checker-clause-stopped g c = wants_at_start c.from_residual-in_err-checker.result c.args.slot c.args.vars c.args.clauses (g.D.Desk.state c.args.desk.now) c.requires.not_ended c.from_residual-in_err-checker.ensures.1

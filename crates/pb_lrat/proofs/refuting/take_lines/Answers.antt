@@ -17,8 +17,8 @@ rows-init g c =
     let a = g.D.Desk.state c.args.desk.now in
     record {
       goes_on = record { slot = refl; limits = refl; fine = c.requires.fine };
-      reads = reads_begin c.args.lines.now.slot c.args.lines.now.ahead a (EndsSame c.args.checker.now c.args.lines.now c.args.checker.now c.args.lines.now) (λ text. refl);
-      passes = reads_begin c.args.lines.now.slot c.args.lines.now.ahead a (Passes (AllTaken c.args.checker.now) (AllTaken c.args.checker.now)) (λ text. passes_begin (AllTaken c.args.checker.now) text);
+      reads = reads_begin c.args.lines.now.slot c.args.lines.now.ahead a (EndsSame c.args.checker.now c.args.lines.now c.args.checker.now c.args.lines.now) c.requires.knows (λ text. refl);
+      passes = reads_begin c.args.lines.now.slot c.args.lines.now.ahead a (Passes (AllTaken c.args.checker.now) (AllTaken c.args.checker.now)) c.requires.knows (λ text. passes_begin (AllTaken c.args.checker.now) text);
     }
 
 pub returns-in-Err-clause-stopped : goal.returns-in-Err-clause-stopped

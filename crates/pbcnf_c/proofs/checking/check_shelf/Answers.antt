@@ -18,7 +18,7 @@ returns-in-Ok c =
     let o = check_spec (as_check_words c.args.asked.now) in
     let t = told_of desk (λ t. (t.shelf ≡ shelf_of c.args.shelf) × IsFresh t desk) c.in-Ok.ensures.fresh in
     subst (λ (shelf : Shelf). AnswersInMemory o shelf 16 c.check_file.result) t.1.0
-    (answers_in_memory o t.0 16 desk _ t.1.1 c.in-Ok.ensures.room (memory_fits c.check_file.new.desk) c.check_file.result (c.in-Ok.ensures.steady.1 c.new.ensures) c.check_file.ensures)
+    (answers_in_memory o t.0 16 desk _ t.1.1 c.in-Ok.ensures.room (memory_fits c.check_file.new.desk) c.check_file.result (c.in-Ok.ensures.steady.1 c.new.ensures) c.check_file.ensures.implements)
 
 pub returns-in-Err : goal.returns-in-Err
 returns-in-Err c = no_memory

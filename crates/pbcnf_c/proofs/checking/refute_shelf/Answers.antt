@@ -20,7 +20,7 @@ returns-in-Ok-clause-answers c =
     let o = refute_spec (as_refute_words c.args.asked.now) in
     let t = told_of desk (λ t. (t.shelf ≡ shelf_of c.args.shelf) × IsFresh t desk) c.in-Ok.ensures.fresh in
     subst (λ (shelf : Shelf). AnswersInMemory o shelf 16 c.refute_file.result) t.1.0
-    (answers_in_memory o t.0 16 desk _ t.1.1 c.in-Ok.ensures.room (memory_fits c.refute_file.new.desk) c.refute_file.result (c.in-Ok.ensures.steady.1 c.new.ensures) c.refute_file.ensures)
+    (answers_in_memory o t.0 16 desk _ t.1.1 c.in-Ok.ensures.room (memory_fits c.refute_file.new.desk) c.refute_file.result (c.in-Ok.ensures.steady.1 c.new.ensures) c.refute_file.ensures.implements)
 
 pub returns-in-Err-clause-answers : goal.returns-in-Err-clause-answers
 returns-in-Err-clause-answers c = no_memory
@@ -30,4 +30,4 @@ returns-in-Ok-clause-refutes c = λ done.
     let desk = state_of c.in-Ok.desk in
     let w = as_refute_words c.args.asked.now in
     let t = told_of desk (λ t. (t.shelf ≡ shelf_of c.args.shelf) × IsFresh t desk) c.in-Ok.ensures.fresh in
-    subst (HasNoSolution w) t.1.0 (in_told desk t.0 (λ u. HasNoSolution w u.shelf) t.1.1.told (obeyed_refutes w desk _ c.refute_file.result done c.refute_file.ensures))
+    subst (HasNoSolution w) t.1.0 (in_told desk t.0 (λ u. HasNoSolution w u.shelf) t.1.1.told (obeyed_refutes w desk _ c.refute_file.result done c.refute_file.ensures.implements))
