@@ -16,8 +16,8 @@ import zipfile
 
 _HERE = os.path.dirname(os.path.realpath(__file__))
 _NAME = "libpbcnf.so.0"
-# The modules of pbcnf.tools that are commands.
-_COMMANDS = ("core", "minimize", "solve", "tidy", "veripb")
+# The commands by the modules of pbcnf.tools; `cheapest` is the older name of `minimize`.
+_COMMANDS = {"cheapest": "minimize", "core": "core", "hints": "hints", "minimize": "minimize", "solve": "solve", "tidy": "tidy", "veripb": "veripb"}
 _SUMMARY = "The proved encoder of pseudo-Boolean problems as CNF, by its C library"
 # Processors by their numbers in the head of a library.
 _MACHINES = {62: "x86_64", 183: "aarch64"}
@@ -36,7 +36,7 @@ def build_wheel(wheel_directory, config_settings=None, metadata_directory=None):
     files = {"pbcnf/" + name: _read("pbcnf", *name.split("/")) for name in _modules()}
     files["pbcnf/" + _NAME] = library
     files[about + "METADATA"] = _lines("Metadata-Version: 2.1", "Name: pbcnf", "Version: " + version, "Summary: " + _SUMMARY, "Requires-Python: >=3.8")
-    files[about + "entry_points.txt"] = _lines("[console_scripts]", *("pbcnf-%s = pbcnf.tools.%s:main" % (name, name) for name in _COMMANDS))
+    files[about + "entry_points.txt"] = _lines("[console_scripts]", *("pbcnf-%s = pbcnf.tools.%s:main" % command for command in _COMMANDS.items()))
     files[about + "WHEEL"] = _lines("Wheel-Version: 1.0", "Generator: pbcnf", "Root-Is-Purelib: false", "Tag: " + tag)
     files[about + "RECORD"] = _lines(*(_entry(name, files[name]) for name in files), about + "RECORD,,")
     wheel = "pbcnf-%s-%s.whl" % (version, tag)

@@ -1,6 +1,6 @@
 """A SAT solver for tests, called as CaDiCaL is: a search tree with unit propagation, which writes LRAT; and it may be told to fail.
 
-The environment's STUB_CALLS names a file that gets a line for each call. From the call of the number STUB_FROM on it does what
+The environment's STUB_CALLS names a file that gets a line for each call. Where its STUB_FORMAT is `drat` it writes DRAT, as older ones do. From the call of the number STUB_FROM on it does what
 STUB_DOES says: `hang`, `stubborn` (hang, and stay at SIGTERM), `lie` (say that there is no model), `crash`, or `give-up`.
 """
 
@@ -61,6 +61,11 @@ class Tree:
         return None, self.learn(negated, refused)
 
 
+def _without_hints(line):
+    words = line.split()[1:]
+    return " ".join(words[:words.index("0") + 1]) + "\n"
+
+
 def fail(does):
     if does == "stubborn":
         signal.signal(signal.SIGTERM, signal.SIG_IGN)
@@ -73,8 +78,9 @@ def fail(does):
 
 
 def main(words):
+    is_drat = os.environ.get("STUB_FORMAT") == "drat"
     if "--help" in words:
-        print("  --lrat=bool  write LRAT")
+        print("  --binary" if is_drat else "  --lrat=bool  write LRAT")
         return 0
     with open(os.environ["STUB_CALLS"], "a+") as calls:
         calls.write(" ".join(words) + "\n")
@@ -91,8 +97,8 @@ def main(words):
         print("s SATISFIABLE\nv %s 0" % " ".join(str(variable if true else -variable) for variable, true in sorted(model.items())))
         return 10
     if len(files) > 1:
-        with open(files[1], "w") as lrat:
-            lrat.write("".join(line + "\n" for line in tree.lines))
+        with open(files[1], "w") as reasons:
+            reasons.write("".join(_without_hints(line) if is_drat else line + "\n" for line in tree.lines))
     print("s UNSATISFIABLE")
     return 20
 

@@ -7,6 +7,7 @@ The values of the problems are those that a search through all assignments finds
 import gzip
 import itertools
 import os
+import shutil
 import signal
 import stat
 import subprocess
@@ -14,8 +15,14 @@ import sys
 import tempfile
 import time
 import unittest
+import unittest.mock
 
 HERE = os.path.dirname(os.path.realpath(__file__))
+sys.path.insert(0, os.path.dirname(HERE))
+
+from pbcnf.tools import answers  # noqa: E402
+from pbcnf.tools.statuses import Stop  # noqa: E402
+
 TOP = os.path.dirname(os.path.dirname(os.path.dirname(HERE)))
 GUARDS = os.path.join(TOP, "examples", "guards.opb")
 PIGEONS = os.path.join(TOP, "examples", "pigeons.opb")
@@ -52,6 +59,7 @@ class Commands(unittest.TestCase):
             os.mkdir(os.path.join(self.folder, name))
         self.calls = os.path.join(self.folder, "calls")
         self.make_stub("cadical")
+        self.make_clasp("exit 65")
         self.environment = dict(os.environ, TMPDIR=self.path("tmp"), STUB_CALLS=self.calls, PATH=self.path("bin") + os.pathsep + os.environ["PATH"],
                                 PYTHONPATH=os.path.join(TOP, "library", "python"), PYTHONDONTWRITEBYTECODE="1")
         self.environment.pop("SOLVER", None)
@@ -68,7 +76,12 @@ class Commands(unittest.TestCase):
         return self.path(name)
 
     def make_stub(self, name):
-        script = self.put(os.path.join("bin", name), '#!/bin/sh\nexec "%s" -B "%s" "$@"\n' % (sys.executable, os.path.join(HERE, "stub_solver.py")))
+        script = self.put(os.path.join("bin", name), '#!/bin/sh\nexec "%s" -I -S -B "%s" "$@"\n' % (sys.executable, os.path.join(HERE, "stub_solver.py")))
+        os.chmod(script, os.stat(script).st_mode | stat.S_IXUSR)
+
+    def make_clasp(self, *lines):
+        """An optimizer that does what these lines of a shell say."""
+        script = self.put("bin/clasp", "\n".join(("#!/bin/sh",) + lines) + "\n")
         os.chmod(script, os.stat(script).st_mode | stat.S_IXUSR)
 
     def start(self, *words, does=None, since=1):
@@ -81,25 +94,25 @@ class Commands(unittest.TestCase):
     def run_tool(self, *words, text="", **chosen):
         """The status and the lines of both streams."""
         child = self.start(*words, **chosen)
-        said, told = child.communicate(text, timeout=60)
+        said, told = child.communicate(text, timeout=120)
         return child.returncode, said.splitlines(), told
 
-    def interrupt(self, number, does, since, *words):
-        """The same of a command that gets a signal once the solver is called for the time at which it does so."""
+    def interrupt(self, number, does, since, *words, calls=None):
+        """The same of a command that gets a signal once the solver is called for the time at which it does so, or so many times."""
         child = self.start(*words, does=does, since=since)
         child.stdin.close()
-        self.wait_for_call(since)
+        self.wait_for_call(calls or since)
         child.send_signal(number)
         began = time.monotonic()
-        self.assertIsNotNone(child.wait(timeout=20))
-        self.assertLess(time.monotonic() - began, 5)
+        self.assertIsNotNone(child.wait(timeout=60))
+        self.assertLess(time.monotonic() - began, 15)
         said, told = child.stdout.read(), child.stderr.read()
         child.stdout.close()
         child.stderr.close()
         return child.returncode, said.splitlines(), told
 
     def wait_for_call(self, count):
-        for _ in range(1000):
+        for _ in range(6000):
             if os.path.exists(self.calls):
                 with open(self.calls) as file:
                     if len(file.readlines()) >= count:
@@ -166,9 +179,19 @@ class Minimizing(Commands):
             status, said, _ = self.run_tool("minimize", "-q", self.put("stars.opb", STARS), option)
             self.assertEqual((status, self.values_of(said)[-1]), (0, 3), option)
 
+    def test_encodings(self):
+        sizes = {}
+        for words in ("--encoding=auto", "--encoding=plain", "--general=diagram", "--general=tree"):
+            status, said, told = self.run_tool("minimize", self.put("stars.opb", STARS), "--jobs=1", words)
+            self.assertEqual((status, self.values_of(said)[-1], said[-2]), (0, 3, "s OPTIMUM FOUND"), words)
+            sizes[words] = [line.partition("; ")[2] for line in told.splitlines()]
+        self.assertEqual(sizes["--general=diagram"], sizes["--encoding=plain"])
+        self.assertNotEqual(sizes["--general=tree"], sizes["--general=diagram"])
+        self.assertIn(sizes["--encoding=auto"], (sizes["--general=tree"], sizes["--general=diagram"]))
+
     def test_signals(self):
         for number in (signal.SIGHUP, signal.SIGINT, signal.SIGTERM):
-            for does in ("hang", "stubborn"):
+            for does in ("hang", "stubborn") if number == signal.SIGTERM else ("hang",):
                 if os.path.exists(self.calls):
                     os.unlink(self.calls)
                 status, said, told = self.interrupt(number, does, 2, "minimize", self.put("stars.opb", STARS))
@@ -181,7 +204,7 @@ class Minimizing(Commands):
         self.assertEqual((status, said), (75, ["s UNKNOWN"]))
 
     def test_limit_of_time(self):
-        status, said, told = self.run_tool("minimize", "-q", self.put("stars.opb", STARS), "--seconds=2", does="hang", since=2)
+        status, said, told = self.run_tool("minimize", "-q", self.put("stars.opb", STARS), "--seconds=6", does="hang", since=2)
         self.assertEqual((status, said[-2]), (75, "s SATISFIABLE"))
         self.assertEqual(told, "pbcnf-minimize: the time is over\n")
         os.unlink(self.calls)
@@ -204,19 +227,67 @@ class Minimizing(Commands):
             self.assertIn("cadical ended with status 3", told)
 
     def test_undecided_steps_go_on(self):
-        status, said, told = self.run_tool("minimize", self.put("stars.opb", STARS), "--seconds=3", does="give-up", since=2)
+        # The one of both that looks from above halves twice before it asks for more.
+        status, said, _ = self.interrupt(signal.SIGINT, "give-up", 2, "minimize", self.put("stars.opb", STARS), calls=12)
         self.assertEqual((status, said[-2]), (75, "s SATISFIABLE"))
         with open(self.calls) as file:
             limits = [call.split()[call.split().index("-c") + 1] for call in file if "-c" in call.split()]
         self.assertGreater(int(limits[-1]), int(limits[0]), "the limit of conflicts has not grown")
 
-    def test_solver_without_lrat(self):
+    def test_solver_without_reasons(self):
         self.make_stub("other")
-        status, said, told = self.run_tool("minimize", self.put("stars.opb", STARS), "--solver", "other -q")
+        # One more run, of CaDiCaL, has it refuted.
+        status, said, told = self.run_tool("minimize", "-q", self.put("stars.opb", STARS), "--solver", "other -q")
+        self.assertEqual((status, self.values_of(said)[-1], said[-2], told), (0, 3, "s OPTIMUM FOUND", ""))
+        self.assertEqual(self.run_tool("minimize", "-q", self.put("none.opb", NONE), "--solver", "other -q"), (20, ["s UNSATISFIABLE"], ""))
+        # And where there is none, nothing is.
+        os.unlink(self.path("bin/cadical"))
+        self.environment["PATH"] = self.path("bin")
+        status, said, told = self.run_tool("minimize", self.path("stars.opb"), "--solver", "other -q")
         self.assertEqual((status, self.values_of(said)[-1], said[-2]), (75, 3, "s SATISFIABLE"))
-        self.assertIn("pbcnf-minimize: other writes no LRAT", told)
-        status, said, _ = self.run_tool("minimize", self.put("none.opb", NONE), "--solver", "other -q")
+        self.assertIn("pbcnf-minimize: other gives no reasons", told)
+        status, said, _ = self.run_tool("minimize", self.path("none.opb"), "--solver", "other -q")
         self.assertEqual((status, said), (75, ["s UNKNOWN"]))
+
+    def test_optimizer(self):
+        """One that finds the best solution, one that says too early that it is the best, ones that lie, fail and never end."""
+        opb = self.put("stars.opb", STARS)
+        best, other = "-1 -2 3 4 0", "1 -2 3 -4 0"
+        for lines in (("echo v %s; echo o 5; echo v %s; echo o 2; echo s OPTIMUM FOUND" % (other, best),), ("echo v %s; echo o 5; echo s OPTIMUM FOUND" % other,),
+                      ("echo v 1 2 3 4 0; echo o 0; exec sleep 60",), ("echo s OPTIMUM FOUND",), ("echo v 1", "exit 3"), ("exec sleep 60",),
+                      ("exec >&-; exec sleep 60",)):
+            self.make_clasp(*lines)
+            status, said, _ = self.run_tool("minimize", "-q", opb, "--jobs=2")
+            self.assertEqual((status, self.values_of(said)[-1], said[-2]), (0, 3, "s OPTIMUM FOUND"), lines)
+
+    def test_optimizer_that_is_there(self):
+        os.unlink(self.path("bin/clasp"))
+        if not shutil.which("clasp"):
+            self.skipTest("there is no clasp")
+        for name, least in (("guards", 20), ("weights", 7)):
+            status, said, _ = self.run_tool("minimize", "-q", os.path.join(TOP, "examples", name + ".opb"), "--jobs=2", "--seconds=60", "--unproved")
+            self.assertEqual((self.values_of(said)[-1], said[-2]), (least, "s SATISFIABLE"))
+
+    def test_unproved(self):
+        status, said, told = self.run_tool("minimize", "-q", self.put("stars.opb", STARS), "--unproved")
+        self.assertEqual((status, self.values_of(said)[-1], said[-2]), (75, 3, "s SATISFIABLE"))
+        self.assertEqual(told, "pbcnf-minimize: cadical finds nothing better, and gives no reasons that would refute it\n")
+        with open(self.calls) as calls:
+            self.assertNotIn("--lrat", calls.read())
+        self.assertEqual(self.run_tool("minimize", "-q", self.put("none.opb", NONE), "--unproved")[:2], (75, ["s UNKNOWN"]))
+
+    def test_reasons_in_drat(self):
+        self.environment["STUB_FORMAT"] = "drat"
+        status, said, told = self.run_tool("minimize", "-q", self.put("stars.opb", STARS))
+        self.assertEqual((status, self.values_of(said)[-1], said[-2], told), (0, 3, "s OPTIMUM FOUND", ""))
+        self.assertEqual(self.run_tool("minimize", "-q", self.put("none.opb", NONE)), (20, ["s UNSATISFIABLE"], ""))
+        self.assertEqual(self.run_tool("solve", self.path("none.opb")), (20, ["s UNSATISFIABLE"], ""))
+
+    def test_jobs(self):
+        for jobs in ("1", "4"):
+            status, said, _ = self.run_tool("minimize", "-q", self.put("stars.opb", STARS), "--jobs", jobs)
+            self.assertEqual((status, self.values_of(said)[-1], said[-2]), (0, 3, "s OPTIMUM FOUND"), jobs)
+        self.assertEqual(self.run_tool("minimize", self.path("stars.opb"), "--jobs=0")[:2], (2, []))
 
     def test_closed_output(self):
         child = self.start("minimize", "-q", self.put("stars.opb", STARS))
@@ -234,6 +305,26 @@ class Minimizing(Commands):
         status, _, told = self.run_tool("minimize", "-q", "-", text=text)
         self.assertEqual(status, 0)
         self.assertIn("the first line says 4 constraints, and the text has 2", told)
+
+
+class Asking(Commands):
+    """The answers for programs."""
+
+    def test_answers(self):
+        with unittest.mock.patch.dict(os.environ, self.environment, clear=True):
+            self.assertEqual(answers.best(STARS), ({"a": False, "b": True, "c": True, "d": True}, 3, True))
+            self.assertEqual(answers.best(STARS, "--unproved")[1:], (3, False))
+            self.assertEqual(answers.best(">= 0 ; +1 a >= 1 ;"), ({"a": True}, None, False))
+            self.assertEqual(answers.solution("+1 a +1 ~b >= 2 ;"), ({"a": True, "b": False}, None, False))
+            self.assertIsNone(answers.best(NONE))
+            self.assertIsNone(answers.solution(NONE))
+            for text, words, status in (("a >= 1 ;", (), 1), (NONE, ("--general=none",), 2), (STARS, ("--solver=no-such-solver",), 69)):
+                with self.assertRaises(Stop) as raised:
+                    answers.best(text, *words)
+                self.assertEqual(raised.exception.status, status)
+            # That there is none, by a solver's word, is no answer.
+            with self.assertRaises(Stop):
+                answers.best(NONE, "--unproved")
 
 
 class Solving(Commands):
@@ -264,10 +355,43 @@ class Solving(Commands):
         self.assertEqual(self.run_tool("nothing")[:2], (2, []))
 
     def test_refused_texts(self):
-        status, said, told = self.run_tool("solve", "-", text="+1 x1 >= 1\n")
-        self.assertEqual((status, said, told), (1, [], "pbcnf: OPB 2:1: expected ;\n"))
+        lines = "pbcnf: OPB 2:1: expected ;\npbcnf-%s: -: the end of the text stands there: no ; at the end of the text, which may be cut off; pbcnf-tidy adds ;\n"
+        for command in ("solve", "minimize", "core"):
+            self.assertEqual(self.run_tool(command, "-", text="+1 x1 >= 1\n"), (1, [], lines % command))
         status, said, told = self.run_tool("solve", self.path("missing.opb"))
         self.assertEqual((status, said, told), (4, [], "pbcnf-solve: %s: No such file or directory\n" % self.path("missing.opb")))
+
+    def test_tidy(self):
+        for command, wanted in (("solve", (0, ["s SATISFIABLE", "v x1 x2"])), ("minimize", (65, ["s SATISFIABLE", "v x1 x2"]))):
+            status, said, told = self.run_tool(command, "-", "--tidy", text="x1 + x2 > 1;\n")
+            self.assertEqual((status, said), wanted)
+            self.assertIn("pbcnf-%s: OPB 1:1: x1 became +1 x1: a term without its coefficient\n" % command, told)
+        status, said, told = self.run_tool("minimize", "-q", "--tidy", "-", text="max: 2 x1 + x2; x1 + x2 <= 1;\n")
+        self.assertEqual((status, said[-3:]), (0, ["o -2", "s OPTIMUM FOUND", "v x1 -x2"]))
+        self.assertEqual(self.run_tool("core", "--tidy", "-", text="x1 >= 1; x2 >= 1; x1 + x2 <= 1;\n")[1][-1], "refuted")
+        self.assertEqual(self.run_tool("solve", "--tidy", "-", text="x1-x2 >= 1;\n")[:2], (1, []))
+
+    def test_many_solutions(self):
+        text = "min: +1 x1 -1 x2 ;\n+1 x1 +1 x2 >= 1 ;\n+1 x2 +1 x3 >= 2 ; * no line ends here"
+        status, said, told = self.run_tool("solve", "-", "--all", text=text)
+        self.assertEqual((status, said[-1], told), (0, "c 2, and no other, which is refuted", ""))
+        self.assertEqual(sorted(line for line in said if line[0] == "v"), ["v -x1 x2 x3", "v x1 x2 x3"])
+        self.assertEqual(sorted(self.values_of(said)), [-1, 0])
+        self.assertEqual(len([line for line in self.run_tool("solve", "-", "--count=1", text=text)[1] if line[0] == "v"]), 1)
+        status, said, _ = self.run_tool("solve", "-", "--count=9", "--unproved", "--at-most-minus=1", text=text)
+        self.assertEqual((status, said), (0, ["o -1", "s SATISFIABLE", "v -x1 x2 x3", "c 1, and no other, by the word of cadical"]))
+        # All four of two free variables, by names; the one solution of no variables; and none.
+        self.assertEqual(len([line for line in self.run_tool("solve", "-", "--all", text=">= 0 ; +1 rain +1 sun >= 0 ;")[1] if line[0] == "v"]), 4)
+        self.assertEqual(self.run_tool("solve", "-", "--all", text=">= 0 ;")[:2], (0, ["s SATISFIABLE", "v", "c 1, and no other, which is refuted"]))
+        self.assertEqual(self.run_tool("solve", "-", "--all", text=NONE), (20, ["s UNSATISFIABLE"], ""))
+        for words in (("--count=0",), ("--count=2", "--all")):
+            self.assertEqual(self.run_tool("solve", "-", *words, text=text)[:2], (2, []))
+
+    def test_lies_are_not_believed(self):
+        # That there is none is refuted, unless that is not asked for.
+        self.assertEqual(self.run_tool("solve", GUARDS, does="lie")[:2], (10, []))
+        os.unlink(self.calls)
+        self.assertEqual(self.run_tool("solve", GUARDS, "--unproved", does="lie")[:2], (20, ["s UNSATISFIABLE"]))
 
     def test_missing_programs(self):
         self.assertEqual(self.run_tool("solve", GUARDS, "--solver=no-such-solver")[:2], (69, []))
@@ -296,7 +420,8 @@ class Solving(Commands):
     def test_signals_and_time(self):
         self.assertEqual(self.run_tool("solve", GUARDS, "--seconds=0.5", does="hang")[:2], (75, ["s UNKNOWN"]))
         for number, wanted in ((signal.SIGHUP, 129), (signal.SIGINT, 130), (signal.SIGTERM, 143)):
-            os.unlink(self.calls)
+            if os.path.exists(self.calls):
+                os.unlink(self.calls)
             self.assertEqual(self.interrupt(number, "stubborn", 1, "solve", GUARDS), (wanted, [], ""))
 
 

@@ -17,9 +17,9 @@ import unittest.mock
 
 sys.path.insert(0, os.path.join(os.path.dirname(os.path.realpath(__file__)), os.pardir))
 
-from pbcnf.tools import progress, search, sources, stride, values, workspace  # noqa: E402
+from pbcnf.tools import encodings, optimizers, progress, reasons, search, seekers, sources, values, workspace  # noqa: E402
 from pbcnf.tools.program import Solution, Summary, bound_option  # noqa: E402
-from pbcnf.tools.solvers import Effort, Verdict  # noqa: E402
+from pbcnf.tools.solvers import Effort, Reasons, Verdict  # noqa: E402
 from pbcnf.tools.statuses import Stop  # noqa: E402
 from pbcnf.tools.watch import Interrupted, Watch  # noqa: E402
 
@@ -71,6 +71,19 @@ class Running(Folder):
             with open(left) as file:
                 pid = int(file.read())
             self.assertTrue(gone(pid), "what the program started still runs")
+
+    def test_several_at_once(self):
+        with Watch() as watch:
+            slow, fast = watch.start(["sleep", "30"]), watch.start(["sh", "-c", "sleep 0.1; exit 3"])
+            limited = watch.start(["sleep", "30"], seconds=0.5)
+            self.assertIs(watch.wait([slow, fast, limited]), fast)
+            self.assertIs(watch.wait([slow, limited]), limited)
+            self.assertEqual((fast.status, limited.status, slow.status), (3, None, None))
+            watch.end(limited)
+            watch.end_all()
+            self.assertTrue(gone(slow.child.pid))
+            left = watch.start(["sleep", "30"])
+        self.assertTrue(gone(left.child.pid), "what was left at the end still runs")
 
     def test_handlers_are_as_before(self):
         before = [signal.getsignal(number) for number in (signal.SIGINT, signal.SIGTERM, signal.SIGCHLD)]
@@ -151,14 +164,23 @@ class Bounds(unittest.TestCase):
     def test_options(self):
         self.assertEqual([bound_option(value) for value in (19, 0, -4)], ["--at-most=19", "--at-most=0", "--at-most-minus=4"])
 
-    def test_steps_stay_within(self):
+    def test_places_stay_within(self):
         draw = random.Random(1)
-        for _ in range(100):
-            steps = stride.Stride()
+        for count in (1, 2, 3, 5):
+            made = seekers.seekers(count)
+            self.assertEqual(len(made), count)
+            for seeker in made:
+                for _ in range(200):
+                    lower, upper = draw.randint(0, 50), draw.randint(51, 100)
+                    self.assertTrue(lower <= seeker.choose(lower, upper) < upper)
+                    draw.choice([seeker.found, seeker.refused, seeker.undecided])()
+
+    def test_undecided_leads_to_more_effort(self):
+        for seeker in seekers.seekers(3):
             for _ in range(20):
-                places = draw.randint(1, 100)
-                self.assertTrue(1 <= steps.length(places) <= places)
-                draw.choice([steps.found, lambda: steps.undecided(False), lambda: steps.undecided(True)])()
+                seeker.choose(0, 1000)
+                seeker.undecided()
+            self.assertGreater(seeker.effort.conflicts, 10 ** 6)
 
     def test_values(self):
         draw = random.Random(2)
@@ -188,14 +210,19 @@ class Bounds(unittest.TestCase):
         self.assertLessEqual(oracle.calls, 6)
 
     def test_search_ends_with_the_least(self):
-        for seed in range(200):
+        for seed in range(300):
             told = []
-            oracle = Drawn(random.Random(seed))
-            looking = search.Search(oracle, oracle.possible, lambda found: told.append((found.incumbent.value, found.lower)))
+            oracle = Drawn(random.Random(seed), (None, "good", "bad", "sure")[seed // 4 % 4])
+            looking = search.Search(oracle, oracle.possible, lambda found: told.append((found.incumbent.value, found.lower)), 1 + seed % 4)
             looking.run()
             self.assertEqual(looking.found.incumbent.value, min(oracle.values))
             self.assertEqual(looking.found.lower, min(oracle.values))
             self.assertEqual([value for value, _ in told], sorted((value for value, _ in told), reverse=True))
+            self.assertEqual([low for _, low in told[1:]], sorted(low for _, low in told[1:]))
+            # What was refused last is what the refutation has to be of.
+            if min(oracle.values) != oracle.possible().at(0):
+                self.assertEqual(max(oracle.refused), min(oracle.values) - 1)
+            self.assertEqual(oracle.open, [], "a question was left open")
 
     def test_search_of_nothing(self):
         oracle = Drawn(random.Random(1))
@@ -205,13 +232,79 @@ class Bounds(unittest.TestCase):
         self.assertIsNone(looking.found.incumbent)
 
 
-class Drawn:
-    """Answers for some values that solutions have, and gives up the more often the less effort it is given."""
+class Encodes:
+    """Stands for the program: a diagram and a tree have so many variables, bytes and adders."""
 
-    def __init__(self, draw):
+    def __init__(self, diagram, tree, text=b"", weighted=1):
+        self.forms = diagram, tree
+        self.text = text
+        self.weighted = weighted
+        self.limits = []
+
+    def encode(self, options, cnf):
+        return self.write(0, cnf, self.forms[0][1])
+
+    def encode_within(self, size, options, cnf):
+        self.limits.append(size)
+        return self.write(1, cnf, size)
+
+    def write(self, form, cnf, limit):
+        variables, size, adders = self.forms[form]
+        with open(cnf, "wb") as file:
+            file.write((b"d", b"t")[form] * min(size, limit))
+        return Summary(variables, 9, self.weighted, adders) if size <= limit else None
+
+
+class Chosen(Folder):
+    def chosen(self, program, options=(), times=1):
+        """The options of the last CNF, and its first letter."""
+        cnf = os.path.join(self.folder, "cnf")
+        made = encodings.Encodings(program, options, True)
+        for _ in range(times):
+            taken = made.encode(["--at-most=3"], cnf)[1]
+        self.assertEqual(os.listdir(self.folder), ["cnf"])
+        with open(cnf, "rb") as file:
+            return taken, file.read(1)
+
+    def test_trees(self):
+        budget = "--budget=300000"
+        diagram = 90, 10, 0
+        for tree in ((89, 10, 0), (89, 320, 0)):
+            self.assertEqual(self.chosen(Encodes(diagram, tree)), ([budget, "--at-most=3", "--general=tree"], b"t"))
+        for tree in ((90, 10, 0), (89, 321, 0), (89, 10, 1)):
+            self.assertEqual(self.chosen(Encodes(diagram, tree)), ([budget, "--at-most=3"], b"d"))
+        self.assertEqual(self.chosen(Encodes((90, 10, 1), (500, 300, 0)))[1], b"t")
+        self.assertEqual(self.chosen(Encodes(diagram, (9, 9, 0), weighted=0))[1], b"d")
+        # What is named holds, and trees that are too large are not tried for ever.
+        self.assertEqual(self.chosen(Encodes(diagram, (9, 9, 0)), ["--general=adder", "--budget=9"]), (["--general=adder", "--budget=9", "--at-most=3"], b"d"))
+        program = Encodes(diagram, (9, 10000, 0))
+        self.chosen(program, times=9)
+        self.assertEqual(program.limits, [320, 320])
+        program = Encodes((9, 10 ** 6, 0), (9, 9, 0))
+        self.chosen(program, times=9)
+        self.assertEqual(program.limits, [30000000] * 9)
+        made = encodings.Encodings(Encodes(diagram, (9, 9, 0), b"+1 x1 = 1 ;"), ["--amo=ladder"])
+        self.assertEqual(made.encode([], os.path.join(self.folder, "cnf"))[1], ["--amo=ladder"])
+
+    def test_equalities(self):
+        for text, wanted in ((b"+1 x1 +1 x2 = 1 ;", True), (b"1 a 1 ~b=1;* +2 x3 = 7 ;\n+7 c >= 1 ; +1 a +1 c = +1;", True), (b"", False),
+                             (b"+1 x1 >= 1 ; +1 x2 <= 1 ;", False), (b"+1 x1 +1 x2 = 1 ; +1 x1 +1 x3 = 2 ;", False), (b"+1 x1 +2 x2 = 1 ;", False),
+                             (b"min: +3 x1 ; +1 x1\n +1 x2 =\n 1 ;", True), (b"+1 x1 -1 x2 = 1 ;", False), (b"+1 x2 x3 +1 y7 = 1 ;", True)):
+            self.assertEqual(encodings.has_choices_alone(text), wanted, text)
+            self.assertEqual("--equal=joint" in self.chosen(Encodes((9, 9, 0), (9, 9, 0), text))[0], wanted)
+        self.assertNotIn("--equal=joint", self.chosen(Encodes((9, 9, 0), (9, 9, 0), b"+1 x1 = 1 ;"), ["--equal=split"])[0])
+
+
+class Drawn:
+    """Answers for some values that solutions have, in any order, and gives up the more often the less effort it is given."""
+
+    def __init__(self, draw, optimizer=None):
         self.draw = draw
+        self.optimizer = optimizer
         self.calls = 0
         self.patient = False
+        self.open = []
+        self.refused = []
         self.least = draw.choice([-1, 1]) * draw.randint(0, 10 ** draw.randint(0, 30))
         self.weights = [draw.randint(1, 10 ** draw.randint(1, 30)) for _ in range(draw.randint(0, 20))]
         self.values = [self.least + sum(weight for weight in self.weights if draw.random() < 0.5) for _ in range(draw.randint(1, 20))]
@@ -219,15 +312,81 @@ class Drawn:
     def possible(self):
         return values.Values(self.least, self.weights)
 
-    def ask(self, bound, effort=None):
+    def pose(self, bound, effort=None):
         self.calls += 1
+        if bound in [other[0] for other in self.open if other != "descent"]:
+            raise AssertionError("asked twice at once")
+        self.open.append((bound, effort))
+        return self.open[-1]
+
+    def descend(self):
+        """An optimizer that finds all but the best ones too, fails at some time, or says too early that nothing is better."""
+        if self.optimizer is None:
+            return None
+        self.open.append("descent")
+        return self.open[-1]
+
+    def drop(self, question):
+        self.open.remove(question)
+
+    def wait(self, questions):
+        if sorted(map(id, questions)) != sorted(map(id, self.open)):
+            raise AssertionError("not all that was asked is waited for")
+        question = self.draw.choice(questions)
+        if question == "descent":
+            ends = self.draw.random() < 0.3 or self.optimizer == "sure"
+            value = self.draw.choice(self.values)
+            return question, Solution(value, "v") if not ends else Verdict.UNKNOWN if self.optimizer == "bad" else Verdict.NO_MODEL
+        self.drop(question)
+        return question, self.answer(*question)
+
+    def answer(self, bound, effort):
         if effort is not None and not self.patient and self.draw.random() > effort.conflicts / 1e5:
             return Verdict.UNKNOWN
         within = [value for value in self.values if bound is None or value <= bound]
+        if not within:
+            self.refused.append(bound)
         return Solution(self.draw.choice(within), "v") if within else Verdict.NO_MODEL
 
 
-class Lines(unittest.TestCase):
+class Descents(Folder):
+    def descent(self, *pieces):
+        """The models of an optimizer that says these pieces, one behind the other, and whether it says that it has ended."""
+        said = list(pieces)
+        running = unittest.mock.Mock(take=lambda: said.pop(0))
+        made = optimizers.Descent(running)
+        return [made.model() for _ in pieces], made.has_ended
+
+    def test_models(self):
+        model = b"s SATISFIABLE\nv 1 -2\nv 3 0\n"
+        self.assertEqual(self.descent(b"c clasp\nc Answer: 1\nv 1 -2\nv 3 0\no 34\n"), ([model], False))
+        # It may be heard in the middle of a line, of a model, and of two; the last one is taken.
+        self.assertEqual(self.descent(b"v 1 -", b"2\nv 3", b" 0\n", b"o 34\nv 7 0\n", b"o 2", b"\n"),
+                         ([None, None, None, model, None, b"s SATISFIABLE\nv 7 0\n"], False))
+        self.assertEqual(self.descent(b"v 7 0\no 9\nv 1 -2\nv 3 0\no 8\ns OPTIMUM FOUND\n"), ([model], True))
+        self.assertEqual(self.descent(b"s UNKNOWN\n", b"", b"s OPTIMUM FOUND"), ([None, None, None], False))
+
+    def test_older_format(self):
+        text = b"c offset -4\nh 1 2 0\n3 -1 0\n40 2 0\nh -2 0\n"
+        self.assertTrue(optimizers._write_older(self.put("new", text), os.path.join(self.folder, "old"), 5))
+        with open(os.path.join(self.folder, "old"), "rb") as file:
+            self.assertEqual(file.read(), b"p wcnf 5 4 44\n44 1 2 0\n3 -1 0\n40 2 0\n44 -2 0\n")
+        for weight, wanted in ((2 ** 31 - 2, True), (2 ** 31 - 1, False)):
+            self.assertEqual(optimizers._write_older(self.put("new", b"c offset 0\n%d 1 0\n" % weight), os.path.join(self.folder, "old"), 5), wanted)
+
+    def test_heard_while_another_runs(self):
+        with Watch() as watch:
+            speaks = watch.start(["sh", "-c", "echo one; sleep 0.2; echo two; exec sleep 0.2"], is_heard=True)
+            other = watch.start(["sleep", "30"])
+            heard = []
+            while speaks.status is None:
+                self.assertIs(watch.wait([other, speaks]), speaks)
+                heard.append(speaks.take())
+            self.assertEqual((b"".join(heard), speaks.status), (b"one\ntwo\n", 0))
+            self.assertGreaterEqual(len(heard), 3)
+
+
+class Lines(Folder):
     """The line on standard error."""
 
     def written(self, terminal, quiet=False, term="xterm"):
@@ -242,6 +401,7 @@ class Lines(unittest.TestCase):
             made.asks(1, Summary(90, 120))
             made.tick(2.0)
             made.knows(search.Found(Solution(7, "v"), 2), 2.5)
+            made.refutes(False)
             made.clear()
         return error.getvalue()
 
@@ -262,6 +422,18 @@ class Lines(unittest.TestCase):
 
     def test_quiet(self):
         self.assertEqual(self.written(True, quiet=True), "")
+
+    def test_long_refutation(self):
+        for quiet in (False, True):
+            error = io.StringIO()
+            with unittest.mock.patch("sys.stderr", error):
+                progress.Progress("tool", quiet).refutes(True)
+            self.assertEqual(error.getvalue().startswith("tool: having it refuted that any is better, which takes minutes; with CaDiCaL"), not quiet)
+        long = self.put("long", b"1 0\n" * 500001)
+        for size, trim, kind, wanted in ((long, None, Reasons.DRAT, True), (long, "drat-trim", Reasons.DRAT, False), (long, None, Reasons.LRAT, False),
+                                         (self.put("short", b"1 0\n"), None, Reasons.DRAT, False)):
+            with unittest.mock.patch("shutil.which", return_value=trim):
+                self.assertEqual(reasons.takes_long(kind, size), wanted)
 
 
 class Efforts(unittest.TestCase):

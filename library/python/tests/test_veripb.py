@@ -12,13 +12,18 @@ import unittest
 from pathlib import Path
 from typing import List, Optional, Tuple
 
-from veripb_cases import Problem, has_solution, pigeons, problems, text_of, total
-from veripb_checker import Verdict, Wrong, check
-from veripb_constraints import normal
+PACKAGE = str(Path(__file__).resolve().parents[1])
+sys.path.insert(0, PACKAGE)
+os.environ["PYTHONPATH"] = PACKAGE
+
+from pbcnf.tools.hints import lrat_lines  # noqa: E402
+from veripb_cases import Problem, has_solution, pigeons, problems, text_of, total  # noqa: E402
+from veripb_checker import Verdict, Wrong, check  # noqa: E402
+from veripb_constraints import normal  # noqa: E402
 
 TOP = Path(os.environ.get("TOP", Path(__file__).resolve().parents[3]))
 PBCNF = os.environ.get("PBCNF", str(TOP / "pbcnf"))
-VERIPB = str(TOP / "examples" / "veripb")
+VERIPB = [sys.executable, "-m", "pbcnf.tools", "veripb"]
 # The linear ones.
 EXAMPLES = ["choice", "colouring", "guards", "knapsack", "lockers", "machines", "pigeons", "rota", "slots", "team", "timetable", "weights"]
 OPTIONS = ["", "--amo pairwise", "--amo ladder --card counter --general diagram", "--amo product --card totalizer --general tree",
@@ -64,12 +69,10 @@ class Folder(unittest.TestCase):
         self.assertEqual(subprocess.run(words, stdout=subprocess.DEVNULL).returncode, 20)
         if lrat:
             return self.path("reasons")
-        with open(self.path("lrat"), "w", encoding="ascii") as file:
-            subprocess.run([str(TOP / "examples" / "hints"), self.path("cnf"), self.path("reasons")], check=True, stdout=file)
-        return self.path("lrat")
+        return self.write("lrat", "".join(lrat_lines(self.path("cnf"), self.path("reasons"))))
 
     def printed(self, opb: str, *words: str) -> str:
-        return subprocess.run([sys.executable, VERIPB, opb, self.path("cnf"), self.path("proof"), *words], check=True,
+        return subprocess.run([*VERIPB, opb, self.path("cnf"), self.path("proof"), *words], check=True,
                               stdout=subprocess.PIPE, encoding="ascii").stdout
 
     def judge(self, opb: str, *words: str) -> Verdict:
@@ -182,7 +185,7 @@ class Refusals(Folder):
              options: Tuple[str, ...] = ()) -> None:
         files = [self.write("opb", opb), self.write("cnf", cnf), self.write("proof", proof)]
         files += [] if lrat is None else [self.write("lrat", lrat)]
-        run = subprocess.run([sys.executable, VERIPB, *options, *files], stdout=subprocess.PIPE, stderr=subprocess.PIPE, encoding="ascii")
+        run = subprocess.run([*VERIPB, *options, *files], stdout=subprocess.PIPE, stderr=subprocess.PIPE, encoding="ascii")
         self.assertEqual((run.returncode, run.stdout, run.stderr), (status, "", f"pbcnf-veripb: {told}\n"))
 
     def test_no_counterpart(self) -> None:
@@ -221,26 +224,26 @@ class Refusals(Folder):
         self.ends(1, "CNF 6:1: expected clause word", cnf=CNF.replace("cnf 2 4", "cnf 2 5"))
 
     def test_files(self) -> None:
-        words = [sys.executable, VERIPB, self.path("none"), "cnf", "proof"]
+        words = [*VERIPB, self.path("none"), "cnf", "proof"]
         run = subprocess.run(words, stdout=subprocess.PIPE, stderr=subprocess.PIPE, encoding="ascii")
         self.assertEqual((run.returncode, run.stdout), (4, ""))
         self.assertEqual(run.stderr, f"pbcnf-veripb: {self.path('none')}: No such file or directory\n")
         files = [self.write("opb", OPB), self.write("cnf", CNF), self.write("proof", DERIVATION)]
         with open("/dev/full", "w", encoding="ascii") as full:
-            run = subprocess.run([sys.executable, VERIPB, *files], stdout=full, stderr=subprocess.PIPE, encoding="ascii")
+            run = subprocess.run([*VERIPB, *files], stdout=full, stderr=subprocess.PIPE, encoding="ascii")
         self.assertEqual((run.returncode, run.stderr), (5, "pbcnf-veripb: standard output: No space left on device\n"))
 
     def test_no_room_for_the_temporary_file(self) -> None:
         """As many lines as do not fit into what a process may write here, which is a block."""
         proof = DERIVATION.replace("out 1", "rup +1 x1 +1 x2 >= 1 ; 1\n" * 5000 + "out 1")
         files = [self.write("opb", OPB), self.write("cnf", CNF), self.write("proof", proof)]
-        run = subprocess.run(["sh", "-c", 'ulimit -f 1; exec "$@"', "sh", sys.executable, VERIPB, *files], stdout=subprocess.PIPE,
+        run = subprocess.run(["sh", "-c", 'ulimit -f 1; exec "$@"', "sh", *VERIPB, *files], stdout=subprocess.PIPE,
                              stderr=subprocess.PIPE, encoding="ascii")
         told = "pbcnf-veripb: the temporary file could not be made or written: File too large\n"
         self.assertEqual((run.returncode, run.stdout, run.stderr), (73, "", told))
 
     def test_usage(self) -> None:
-        run = subprocess.run([sys.executable, VERIPB, "opb"], stdout=subprocess.PIPE, stderr=subprocess.PIPE, encoding="ascii")
+        run = subprocess.run([*VERIPB, "opb"], stdout=subprocess.PIPE, stderr=subprocess.PIPE, encoding="ascii")
         self.assertEqual((run.returncode, run.stdout), (2, ""))
 
 

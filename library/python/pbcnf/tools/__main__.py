@@ -2,21 +2,21 @@
 
 from __future__ import annotations
 
+import importlib
 import sys
 from typing import List
 
-from pbcnf.tools import core, minimize, solve, tidy, veripb
+from pbcnf.tools import COMMANDS
 from pbcnf.tools.statuses import Status
-
-_COMMANDS = {"core": core.main, "minimize": minimize.main, "solve": solve.main, "tidy": tidy.main, "veripb": veripb.main}
 
 
 def main(words: List[str]) -> int:
     """Runs the command that the first word names with the others, and gives its exit status."""
-    if not words or words[0] not in _COMMANDS:
-        sys.stderr.write("usage: python3 -m pbcnf.tools %s ..\n" % "|".join(sorted(_COMMANDS)))
+    if not words or words[0] not in COMMANDS:
+        sys.stderr.write("usage: python3 -m pbcnf.tools %s ..\n" % "|".join(sorted(COMMANDS)))
         return Status.USAGE
-    return _COMMANDS[words[0]](words[1:])
+    status: int = importlib.import_module("pbcnf.tools." + COMMANDS[words[0]]).main(words[1:])
+    return status
 
 
 if __name__ == "__main__":

@@ -9,17 +9,19 @@ from __future__ import annotations
 
 import argparse
 import os
+import shutil
 import sys
-from typing import List, Optional
+from typing import List, Mapping, Optional
 
-from pbcnf.tools import options, program, reasons, sources, tracing
+from pbcnf.tools import options, program, solvers, tracing
 from pbcnf.tools.opb_text import Statement, statements, token_at
-from pbcnf.tools.output import complain, say, test_output
+from pbcnf.tools.output import complain, say, status_of, test_output
 from pbcnf.tools.program import Program
-from pbcnf.tools.solvers import Verdict
+from pbcnf.tools.reasons import make_lrat
+from pbcnf.tools.solvers import Files, Verdict
 from pbcnf.tools.statuses import Status, Stop
 from pbcnf.tools.watch import Interrupted, Watch
-from pbcnf.tools.workspace import Workspace, put_whole
+from pbcnf.tools.workspace import Workspace, put_whole, workspace_of
 
 _NAME = "pbcnf-core"
 _ABOUT = """Prints statements of an OPB problem without solutions that have none by themselves, each behind its line in the text, and then
@@ -32,7 +34,7 @@ _STATUSES = """exit status:
   4   the file could not be read
   5   nothing can be printed, or kept
   9   CaDiCaL gave no answer
-  69  there is no CaDiCaL, no pbcnf, or nothing that turns DRAT into LRAT
+  69  there is no CaDiCaL, or no pbcnf
   73  no temporary files could be made
   129, 130, 143 at SIGHUP, SIGINT, SIGTERM; else that of encode, decode or refute
 """
@@ -47,36 +49,32 @@ def main(words: Optional[List[str]] = None) -> int:
     parser.add_argument("--keep", metavar="FILE", help="write the core there as an OPB text")
     given = parser.parse_args(words)
     try:
-        test_output()
-        return _run(given)
-    except Stop as stop:
-        if stop.words:
-            complain(_NAME, stop.words)
-        return stop.status
+        return status_of(_NAME, lambda: _run(given))
     except Interrupted as interrupted:
         return 128 + (interrupted.signal or 0)
-    except KeyboardInterrupt:
-        return 130
 
 
 def _run(given: argparse.Namespace) -> int:
+    test_output()
     watch = Watch()
     path = program.find(os.environ)
-    problem = sources.read(given.opb)
-    with Workspace() as workspace, watch:
-        found = reasons.find(given.solver, os.environ, watch, workspace)
-        return _Core(path, watch, workspace, found, options.of_encode(given)).run(problem, given.seconds or _SECONDS, given.keep)
+    problem = options.problem_of(given, _NAME)
+    with workspace_of(watch) as workspace:
+        solver = _find_solver(given.solver, os.environ, watch)
+        return _Core(path, watch, workspace, solver, given).run(problem, given.seconds or _SECONDS, given.keep)
 
 
 class _Core:
     """Looks for a core of one problem."""
 
-    def __init__(self, path: str, watch: Watch, workspace: Workspace, found: reasons.Reasons, chosen: List[str]) -> None:
+    def __init__(self, path: str, watch: Watch, workspace: Workspace, solver: solvers.Solver, given: argparse.Namespace) -> None:
         self._path = path
+        self._name = given.opb
         self._watch = watch
         self._workspace = workspace
-        self._reasons = found
-        self._options = chosen
+        self._solver = solver
+        self._options = options.of_encode(given)
+        self._lrat = ""
 
     def run(self, problem: bytes, seconds: float, keep: Optional[str]) -> int:
         """Prints the core behind its refutation, or the solution."""
@@ -94,15 +92,22 @@ class _Core:
         return Status.NO_SOLUTION
 
     def _pose(self, text: bytes) -> Program:
-        return Program(self._path, self._watch, self._workspace, text)
+        return Program(self._path, self._watch, self._workspace, text, self._name)
 
     def _file(self, name: str) -> str:
         return self._workspace.path(name)
 
     def _refute(self, proved: Program) -> Verdict:
-        """Whether a problem has a solution; where it has none, why is in the files `cnf`, `proof` and `lrat`."""
-        proved.encode(self._options, self._file("cnf"), self._file("proof"))
-        return self._reasons.refute(self._file("cnf"), self._file("model"), self._file("lrat"))
+        """Whether a problem has a solution; where it has none, the files `cnf`, `proof` and that of `_lrat` say why."""
+        files = Files(self._file("cnf"), self._file("model"), self._file("reasons"))
+        proved.encode(self._options, files.cnf, self._file("proof"))
+        run = self._solver.run(files)
+        verdict = run.verdict()
+        if verdict is Verdict.UNKNOWN:
+            raise Stop(Status.NO_ANSWER, run.ended())
+        if verdict is Verdict.NO_MODEL and self._solver.reasons is not None:
+            self._lrat = make_lrat(self._solver.reasons, files.cnf, files.reasons, self._watch, self._workspace)
+        return verdict
 
     def _print_solution(self, proved: Program) -> int:
         solution = proved.decode(self._file("model"))
@@ -114,7 +119,7 @@ class _Core:
 
     def _trace(self, posed: List[Statement]) -> List[Statement]:
         """Those of the statements that were refuted on which the refutation rests."""
-        with open(self._file("cnf"), "rb") as cnf, open(self._file("lrat"), "rb") as lrat:
+        with open(self._file("cnf"), "rb") as cnf, open(self._lrat, "rb") as lrat:
             clauses = tracing.clauses_behind(cnf, lrat)
         with open(self._file("proof"), "rb") as proof:
             loaded, needed = tracing.loaded_behind(proof, clauses)
@@ -128,7 +133,7 @@ class _Core:
     def _decide(self, kept: List[Statement], seconds: Optional[float]) -> Verdict:
         """Whether these statements have a solution, as far as can be said in the time."""
         self._pose(_as_text(kept)).encode(self._options, self._file("cnf"))
-        return self._reasons.solve(self._file("cnf"), self._file("model"), seconds)
+        return self._solver.run(Files(self._file("cnf"), self._file("model")), seconds=seconds).verdict()
 
     def _shrink(self, core: List[Statement], seconds: float) -> List[Statement]:
         """A core in it, from which none can be left out, if there is the time to try each."""
@@ -156,7 +161,15 @@ class _Core:
         proved = self._pose(_as_text(core))
         if self._refute(proved) is Verdict.MODEL:
             raise Stop(Status.NO_ANSWER, "CaDiCaL says now this, now that")
-        proved.refute(self._file("cnf"), self._file("proof"), self._file("lrat"), [])
+        proved.refute(self._file("cnf"), self._file("proof"), self._lrat, [])
+
+
+def _find_solver(named: Optional[str], environment: Mapping[str, str], watch: Watch) -> solvers.Solver:
+    """CaDiCaL, by this name or path, or that of SOLVER where it is one, or from the path."""
+    solver = solvers.Solver([named], watch) if named and shutil.which(named) else None if named else solvers.find_prover(None, environment, watch)
+    if solver is None or solver.reasons is None:
+        raise Stop(Status.MISSING, "%s is not on the path, or is no CaDiCaL, which gives reasons" % (named or solvers.PROVER))
+    return solver
 
 
 def _as_text(kept: List[Statement], with_lines: bool = False) -> bytes:

@@ -9,12 +9,12 @@ from typing import List, Optional
 
 from pbcnf.tools import options, program, solvers, sources
 from pbcnf.tools.oracle import Oracle
-from pbcnf.tools.output import Unheard, complain, say, test_output
+from pbcnf.tools.output import Unheard, complain, say, status_of, test_output
 from pbcnf.tools.progress import Progress
 from pbcnf.tools.search import Found, Search
 from pbcnf.tools.statuses import Status, Stop
 from pbcnf.tools.watch import Interrupted, Watch
-from pbcnf.tools.workspace import Workspace
+from pbcnf.tools.workspace import workspace_of
 
 _NAME = "pbcnf-minimize"
 _ABOUT = "Finds a solution of the least value of an OPB problem, and has it refuted that any is better. Prints better ones as they come."
@@ -28,8 +28,9 @@ _STATUSES = """exit status:
   65  there is no objective: a solution was printed
   69  there is no solver, or no pbcnf
   73  no temporary files could be made
-  75  a signal came, the time was over, or the solver writes no LRAT: the best
-      solution so far was printed behind s SATISFIABLE, or s UNKNOWN
+  75  a signal came, the time was over, or nothing can be refuted, since there
+      is no CaDiCaL or as --unproved asks: the best solution so far was
+      printed behind s SATISFIABLE, or s UNKNOWN
   else that of encode, decode or refute; the best solution so far was printed too
 """
 
@@ -37,56 +38,55 @@ _STATUSES = """exit status:
 def main(words: Optional[List[str]] = None) -> int:
     """Runs the command, and gives its exit status."""
     parser = options.parser(_NAME, _ABOUT, _STATUSES)
+    options.add_encoding(parser)
     parser.add_argument("-q", "--quiet", action="store_true", help="nothing on standard error but faults")
     parser.add_argument("--keep", metavar="FOLDER", help="put refuted.cnf, refuted.proof and refuted.lrat there, for pbcnf refute")
+    parser.add_argument(
+        "--jobs", metavar="N", type=options.count_from_one, default=min(2, os.cpu_count() or 1),
+        help="so many solvers beside one another (2, if there are as many processors)")
+    parser.add_argument("--unproved", action="store_true", help="have nothing refuted: the best solution that the solver finds is printed as any other")
     given = parser.parse_args(words)
-    try:
-        test_output()
-        return _run(given)
-    except Stop as stop:
-        if stop.words:
-            complain(_NAME, stop.words)
-        return stop.status
-    except KeyboardInterrupt:
-        return 130
+    return status_of(_NAME, lambda: _run(given))
 
 
 def _run(given: argparse.Namespace) -> int:
+    test_output()
     progress = Progress(_NAME, given.quiet)
     watch = Watch(given.seconds, progress.tick)
     path = program.find(os.environ)
     solver = solvers.find(given.solver, os.environ, watch)
-    problem = sources.read(given.opb)
-    if not solver.writes_lrat and not given.quiet:
-        complain(_NAME, "%s writes no LRAT, so nothing will be refuted; CaDiCaL from 1.7 on does" % solver.name)
-    with watch, Workspace() as workspace:
-        proved = program.Program(path, watch, workspace, problem)
-        oracle = Oracle(proved, solver, workspace, options.of_encode(given), progress)
-        try:
-            return _Run(proved, oracle, progress, watch, problem).run(options.of_encode(given), given.keep)
-        except Stop as stop:
-            raise workspace.blame(stop)
+    problem = options.problem_of(given, _NAME)
+    prover = solver if solver.reasons else solvers.find_prover(given.solver, os.environ, watch)
+    if given.unproved:
+        prover = solver.reasons = None
+    elif prover is None and not given.quiet:
+        complain(_NAME, "%s gives no reasons, so nothing will be refuted; CaDiCaL does" % solver.name)
+    with workspace_of(watch) as workspace:
+        proved = program.Program(path, watch, workspace, problem, given.opb)
+        oracle = Oracle(proved, options.encodings(given, proved), solver, watch, workspace, progress)
+        return _Run(proved, oracle, prover, progress, watch, problem).run(given)
 
 
 class _Run:
     """One run of the command over a problem that was read."""
 
-    def __init__(self, proved: program.Program, oracle: Oracle, progress: Progress, watch: Watch, problem: bytes) -> None:
+    def __init__(self, proved: program.Program, oracle: Oracle, prover: Optional[solvers.Solver], progress: Progress, watch: Watch, problem: bytes) -> None:
         self._proved = proved
         self._oracle = oracle
+        self._prover = prover
         self._progress = progress
         self._watch = watch
         self._problem = problem
         self._warned = False
         self._said: Optional[int] = None
 
-    def run(self, chosen: List[str], keep: Optional[str]) -> int:
+    def run(self, given: argparse.Namespace) -> int:
         """Searches, has the end refuted, and prints the answer, also where something came between."""
-        search = Search(self._oracle, lambda: self._proved.values(chosen), self._report)
+        search = Search(self._oracle, lambda: self._proved.values(options.of_encode(given)), self._report, given.jobs)
         try:
             search.run()
             self._warn()
-            return self._conclude(search.found, keep)
+            return self._conclude(search.found, given.keep)
         except Interrupted as interrupted:
             raise self._give_up(search.found, Stop(Status.UNPROVED, str(interrupted)))
         except Stop as stop:
@@ -114,7 +114,7 @@ class _Run:
     def _conclude(self, found: Found, keep: Optional[str]) -> int:
         best = found.incumbent
         if best is None:
-            self._oracle.certify(None, keep)
+            self._oracle.certify(None, self._prover, keep)
             say("s UNSATISFIABLE\n")
             return Status.NO_SOLUTION
         if best.value is None:
@@ -122,7 +122,7 @@ class _Run:
             complain(_NAME, "there is no objective")
             say("s SATISFIABLE\n%s\n" % best.values)
             return Status.NO_OBJECTIVE
-        self._oracle.certify(best.value - 1, keep)
+        self._oracle.certify(best.value - 1, self._prover, keep)
         self._progress.clear()
         say("s OPTIMUM FOUND\n%s\n" % best.values)
         return Status.DONE

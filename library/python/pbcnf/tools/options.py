@@ -4,9 +4,12 @@ from __future__ import annotations
 
 import argparse
 import math
-from typing import List
+from typing import List, Optional
 
 import pbcnf
+from pbcnf.tools import sources
+from pbcnf.tools.encodings import Encodings
+from pbcnf.tools.program import Program
 from pbcnf.tools.solvers import KNOWN
 
 _CHOICES = {
@@ -27,14 +30,21 @@ def parser(name: str, about: str, statuses: str) -> argparse.ArgumentParser:
     made = argparse.ArgumentParser(
         prog=name, usage="%(prog)s OPB [option ..]", description=about, epilog=_ENVIRONMENT + "\n" + statuses, allow_abbrev=False, formatter_class=argparse.RawDescriptionHelpFormatter)
     made.add_argument("opb", metavar="OPB", help="the problem, which may be packed (.gz, .bz2, .xz); - is standard input")
+    made.add_argument("--tidy", action="store_true", help="rewrite a text of another spelling first, as pbcnf-tidy does")
     made.add_argument("--version", action="version", version="pbcnf " + pbcnf.__version__)
     made.add_argument("--solver", metavar="CMD", help="the SAT solver, with its options; else the first on the path of " + ", ".join(KNOWN))
     made.add_argument("--seconds", metavar="S", type=_seconds, help="end after so many seconds")
     group = made.add_argument_group("options of encode")
     for option, words in _CHOICES.items():
-        group.add_argument("--" + option, choices=words, help="default: " + words[0])
+        group.add_argument("--" + option, choices=words, help="of encode by itself: " + words[0])
     group.add_argument("--budget", metavar="B", type=_count, help="the most fresh variables of a constraint, past which it goes to the adder")
     return made
+
+
+def add_encoding(made: argparse.ArgumentParser) -> None:
+    """Adds the option for who chooses what the options of `encode` leave open."""
+    made.add_argument(
+        "--encoding", choices=("auto", "plain"), help="auto, the default, chooses what the options of encode leave open; plain leaves it to encode")
 
 
 def add_bounds(made: argparse.ArgumentParser) -> None:
@@ -44,16 +54,29 @@ def add_bounds(made: argparse.ArgumentParser) -> None:
     group.add_argument("--at-most-minus", metavar="B", type=_count, help="the objective is to be at most -B")
 
 
+def problem_of(words: argparse.Namespace, name: str) -> bytes:
+    """The OPB text that the words name, which the command of this name may rewrite."""
+    if words.tidy:
+        # Most texts need nothing of it.
+        from pbcnf.tools import tidy
+        return tidy.read(words.opb, name)
+    return sources.read(words.opb)
+
+
+def encodings(words: argparse.Namespace, proved: Program) -> Encodings:
+    """How a problem is encoded, by the words."""
+    return Encodings(proved, of_encode(words), words.encoding != "plain")
+
+
 def of_encode(words: argparse.Namespace) -> List[str]:
     """The options of `encode` among the words."""
     given = ((option, getattr(words, option)) for option in (*_CHOICES, "budget"))
     return ["--%s=%s" % (option, value) for option, value in given if value is not None]
 
 
-def of_bound(words: argparse.Namespace) -> List[str]:
-    """The bound among the words, as `encode` and `decode` take it."""
-    given = (("at-most", words.at_most), ("at-most-minus", words.at_most_minus))
-    return ["--%s=%d" % (option, value) for option, value in given if value is not None]
+def bound_of(words: argparse.Namespace) -> Optional[int]:
+    """The bound among the words: the greatest value that the objective may have."""
+    return words.at_most if words.at_most is not None else None if words.at_most_minus is None else -words.at_most_minus
 
 
 def _seconds(word: str) -> float:
@@ -69,4 +92,11 @@ def _seconds(word: str) -> float:
 def _count(word: str) -> int:
     if not (word.isascii() and word.isdigit()):
         raise argparse.ArgumentTypeError("%s is no number in digits" % word)
+    return int(word)
+
+
+def count_from_one(word: str) -> int:
+    """A number from 1 on."""
+    if _count(word) == 0:
+        raise argparse.ArgumentTypeError("0 is too few")
     return int(word)

@@ -1,9 +1,9 @@
 """Answers whether there is a solution within a bound on the objective: encodes the problem with it, and runs the solver.
 
 Each bound is encoded anew. A table of all bounds over one CNF would save that, but it is up to ten thousand times as large as the
-problem, and where it is small the solver was no faster with it than with the one bound, in all that was tried; and a refutation over
-the table with a bound is none that `refute` takes. Over the one bound it is: so that of the greatest refused bound is kept, and an
-optimum rests on the run which has found nothing better, without another.
+problem, and a refutation over the table with a bound is none that `refute` takes. Over the one bound it is: so that of the greatest
+refused bound is kept, and an optimum rests on the run which has found nothing better, without another. What such runs do not keep,
+the clauses that were learned, an optimizer beside them does.
 """
 
 from __future__ import annotations
@@ -11,9 +11,14 @@ from __future__ import annotations
 import os
 from typing import List, Optional, Protocol, Sequence, Tuple, Union
 
+from pbcnf.tools import optimizers
+from pbcnf.tools.encodings import Encodings
+from pbcnf.tools.optimizers import Descent
 from pbcnf.tools.program import Program, Solution, Summary, bound_option
-from pbcnf.tools.solvers import Effort, Solver, Verdict
+from pbcnf.tools.reasons import make_lrat, takes_long
+from pbcnf.tools.solvers import Effort, Files, Run, Solver, Verdict
 from pbcnf.tools.statuses import Status, Stop
+from pbcnf.tools.watch import Watch
 from pbcnf.tools.workspace import Workspace, put_whole
 
 Answer = Union[Solution, Verdict]
@@ -21,79 +26,154 @@ Answer = Union[Solution, Verdict]
 _OF_MODEL = (1, 8, 9)
 
 
-def tested(program: Program, solver: Solver, model: str, bound: Sequence[str]) -> Solution:
+def tested(program: Program, run: Run, model: str, bound: Sequence[str]) -> Solution:
     """The solution that a solver's text gives; where it gives none, how the solver ended is said too."""
     try:
         return program.decode(model, bound)
     except Stop as stop:
-        raise Stop(stop.status, solver.ended() if stop.status in _OF_MODEL else stop.words)
+        raise Stop(stop.status, run.ended() if stop.status in _OF_MODEL else stop.words)
 
 
-class Asked(Protocol):
+class Told(Protocol):
     """Who is told what is asked for."""
 
     def asks(self, bound: Optional[int], size: Summary) -> None:
         """The solver is about to look for a solution of at most this value, over a CNF of this size."""
 
+    def refutes(self, is_long: bool) -> None:
+        """That there is nothing better is about to be refuted, which may take long."""
+
+
+class Question:
+    """Whether there is a solution of at most a value, which the solver is about to answer."""
+
+    def __init__(self, bound: Optional[int], is_limited: bool, options: List[str], files: Files, run: Run) -> None:
+        self.bound = bound
+        self.is_limited = is_limited
+        self.options = options
+        self.files = files
+        self.run = run
+        self.running = run.running
+
+
+Asked = Union[Question, Descent]
+
 
 class Oracle:
     """Looks for solutions of a problem, and keeps why there are none."""
 
-    def __init__(self, program: Program, solver: Solver, workspace: Workspace, options: Sequence[str], asked: Asked) -> None:
+    def __init__(self, program: Program, encodings: Encodings, solver: Solver, watch: Watch, workspace: Workspace, told: Told) -> None:
         self._program = program
+        self._encodings = encodings
         self._solver = solver
+        self._watch = watch
         self._workspace = workspace
-        self._options = list(options)
-        self._asked = asked
-        self._refused: Optional[Tuple[Optional[int]]] = None
+        self._told = told
+        self._count = 0
+        self._refused: Optional[Question] = None
 
     def ask(self, bound: Optional[int], effort: Optional[Effort] = None) -> Answer:
         """A solution of at most this value, or that there is none, or that the effort was not enough to know."""
-        cnf, model, lrat = (self._workspace.path(name) for name in ("cnf", "model", "lrat"))
-        size = self._program.encode(self._posed(bound), cnf)
-        self._asked.asks(bound, size)
-        verdict = self._solver.run(cnf, model, lrat if self._solver.writes_lrat else None, effort)
-        if verdict is Verdict.MODEL:
-            return self._decode(model, bound)
-        if verdict is Verdict.NO_MODEL:
-            self._keep(bound, lrat)
-        elif effort is None or not self._solver.gave_up:
-            raise Stop(Status.NO_ANSWER, self._solver.ended())
-        return verdict
+        return self.wait([self.pose(bound, effort)])[1]
 
-    def certify(self, bound: Optional[int], keep: Optional[str] = None) -> None:
+    def pose(self, bound: Optional[int], effort: Optional[Effort] = None) -> Question:
+        """Has the solver begin to look for a solution of at most this value."""
+        self._count += 1
+        files = Files(*(self._workspace.path("%s.%d" % (name, self._count)) for name in ("cnf", "model", "reasons")))
+        size, options = self._encodings.encode(_bound(bound), files.cnf)
+        self._told.asks(bound, size)
+        return Question(bound, effort is not None, options, files, self._solver.start(files, effort))
+
+    def descend(self) -> Optional[Descent]:
+        """Has an optimizer look for better and better solutions, if there is one."""
+        return optimizers.start(self._program, self._encodings.options, self._watch, self._workspace)
+
+    def wait(self, asked: Sequence[Asked]) -> Tuple[Asked, Answer]:
+        """Waits for the first answer to what is asked: to a question, which is put no more then, or the next one of an optimizer."""
+        while True:
+            heard = self._watch.wait([one.running for one in asked])
+            one = next(one for one in asked if one.running is heard)
+            answer = self._hear(one) if isinstance(one, Descent) else self._end(one)
+            if answer is not None:
+                return one, answer
+
+    def drop(self, one: Asked) -> None:
+        """Asks it no more."""
+        self._watch.end(one.running)
+        if isinstance(one, Question):
+            _clear(one)
+
+    def certify(self, bound: Optional[int], prover: Optional[Solver], keep: Optional[str] = None) -> None:
         """Comes back where the program's `refute` accepts that no solution is within the bound, which the solver has refused.
 
-        The derivation is that of the same CNF, which is written once more beside it, and the refutation that of the solver's run.
-        Where `keep` is a folder, the files are put there.
+        The refutation is that of the solver's run where the solver is the prover, else that of one more run. The derivation is that
+        of the same CNF, which is written once more beside it. Where `keep` is a folder, the files are put there.
         """
-        if not self._solver.writes_lrat:
-            raise Stop(Status.UNPROVED, "%s finds nothing better, and has written no LRAT that would refute it" % self._solver.name)
-        if self._refused != (bound,):
+        if prover is None or prover.reasons is None:
+            raise Stop(Status.UNPROVED, "%s finds nothing better, and gives no reasons that would refute it" % self._solver.name)
+        if self._refused is None or self._refused.bound != bound or self._solver is not prover:
+            self._solver = prover
             self.ask(bound)
-        if self._refused != (bound,):
+        if self._refused is None or self._refused.bound != bound:
             raise Stop(Status.NO_ANSWER, "%s says now this, now that" % self._solver.name)
-        cnf, proof, lrat = (self._workspace.path(name) for name in ("cnf", "proof", "refused"))
-        self._program.encode(self._posed(bound), cnf, proof)
-        self._program.refute(cnf, proof, lrat, self._bound(bound))
+        cnf, _, reasons = self._refused.files
+        proof = self._workspace.path("proof")
+        self._told.refutes(os.path.exists(reasons) and takes_long(prover.reasons, reasons))
+        self._program.encode(self._refused.options, cnf, proof)
+        lrat = make_lrat(prover.reasons, cnf, reasons, self._watch, self._workspace)
+        self._program.refute(cnf, proof, lrat, _bound(bound))
         if keep is not None:
             for name, path in (("cnf", cnf), ("proof", proof), ("lrat", lrat)):
                 put_whole(path, os.path.join(keep, "refuted." + name))
 
-    def _bound(self, bound: Optional[int]) -> List[str]:
-        return [] if bound is None else [bound_option(bound)]
+    def _end(self, question: Question) -> Answer:
+        answer = self._judge(question)
+        if answer is Verdict.NO_MODEL:
+            self._keep(question)
+        else:
+            _clear(question)
+        return answer
 
-    def _posed(self, bound: Optional[int]) -> List[str]:
-        return self._options + self._bound(bound)
+    def _hear(self, descent: Descent) -> Optional[Answer]:
+        """A better solution, or that it finds none, or that it has failed; or nothing as yet."""
+        model = descent.model()
+        if model is not None:
+            try:
+                return self._program.decode(self._workspace.write("optimizer.model", model))
+            except Stop as stop:
+                if stop.status not in _OF_MODEL:
+                    raise
+                return Verdict.UNKNOWN
+        if descent.has_ended:
+            return Verdict.NO_MODEL
+        return None if descent.running.status is None and descent.running.output is not None else Verdict.UNKNOWN
 
-    def _decode(self, model: str, bound: Optional[int]) -> Solution:
-        return tested(self._program, self._solver, model, self._bound(bound))
+    def _judge(self, question: Question) -> Answer:
+        verdict = question.run.verdict()
+        if verdict is Verdict.MODEL:
+            return tested(self._program, question.run, question.files.model, _bound(question.bound))
+        if verdict is Verdict.UNKNOWN and not (question.is_limited and question.run.gave_up):
+            raise Stop(Status.NO_ANSWER, question.run.ended())
+        return verdict
 
-    def _keep(self, bound: Optional[int], lrat: str) -> None:
-        """Puts the refutation of a refused bound in the place of the one before, which was of a lesser bound."""
-        if self._solver.writes_lrat:
-            # There may be none, where a clause of the CNF is empty.
-            with open(lrat, "ab"):
-                pass
-            os.replace(lrat, self._workspace.path("refused"))
-            self._refused = (bound,)
+    def _keep(self, question: Question) -> None:
+        """Keeps why nothing is within the greatest bound that was refused."""
+        before = self._refused
+        self._refused = question
+        if before is not None:
+            # The questions are put beside one another, so that the greater may have been refused before.
+            if question.bound is not None and (before.bound is None or question.bound < before.bound):
+                self._refused, before = before, question
+            _clear(before)
+
+
+def _bound(bound: Optional[int]) -> List[str]:
+    """The options for a bound, of `encode`, `decode` and `refute`."""
+    return [] if bound is None else [bound_option(bound)]
+
+
+def _clear(question: Question) -> None:
+    """Takes away its files, of which there may be none."""
+    for path in question.files:
+        if os.path.exists(path):
+            os.unlink(path)

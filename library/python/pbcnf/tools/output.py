@@ -4,6 +4,7 @@ from __future__ import annotations
 
 import os
 import sys
+from typing import Callable
 
 from pbcnf.tools.statuses import Status, Stop
 
@@ -33,10 +34,27 @@ def test_output() -> None:
         raise Unheard(error)
 
 
-def complain(name: str, words: str) -> None:
-    """Writes a line to standard error. That nobody is there to read it is no fault."""
+def tell(text: str) -> None:
+    """Writes to standard error. That nobody is there to read it is no fault."""
     try:
-        sys.stderr.write("%s: %s\n" % (name, words))
+        sys.stderr.write(text)
         sys.stderr.flush()
     except (AttributeError, OSError, ValueError):
         pass
+
+
+def complain(name: str, words: str) -> None:
+    """Writes a command's line to standard error."""
+    tell("%s: %s\n" % (name, words))
+
+
+def status_of(name: str, run: Callable[[], int]) -> int:
+    """Runs what a command is for, and gives its exit status; if that cannot go on, the command of this name says why."""
+    try:
+        return run()
+    except Stop as stop:
+        if stop.words:
+            complain(name, stop.words)
+        return stop.status
+    except KeyboardInterrupt:
+        return 130

@@ -4,21 +4,25 @@ from __future__ import annotations
 
 import os
 import shutil
+import subprocess
 import sys
 from dataclasses import dataclass
 from typing import Iterator, List, Mapping, Optional, Sequence
 
+from pbcnf.tools.output import tell
 from pbcnf.tools.statuses import Status, Stop
 from pbcnf.tools.values import Values
 from pbcnf.tools.watch import Watch
 from pbcnf.tools.workspace import Workspace
 
+# The program's status for a syntax error.
+_SYNTAX = 1
 # Where the launcher writes down which program it has tested, in its first line.
 _TESTED = "crates/pbcnf/out/tested"
 
 
 def find(environment: Mapping[str, str]) -> str:
-    """The program: the one that PBCNF names, the launcher beside examples/, the one beside this command, or the one on the path."""
+    """The program: the one that PBCNF names, the one beside this command, that of the repository, or the one on the path."""
     places = [environment.get("PBCNF"), *_places(), shutil.which("pbcnf")]
     for place in places:
         if place:
@@ -27,11 +31,10 @@ def find(environment: Mapping[str, str]) -> str:
 
 
 def _places() -> Iterator[str]:
-    """The programs that lie beside this command, or above it in a repository."""
-    command = os.path.dirname(os.path.abspath(sys.argv[0]))
+    """The programs that lie beside this command, and above it in a repository."""
     top = os.path.abspath(os.path.join(os.path.dirname(os.path.realpath(__file__)), *[os.pardir] * 4))
-    places = [os.path.join(os.path.dirname(command), "pbcnf"), os.path.join(command, "pbcnf")]
-    if os.path.isdir(os.path.join(top, "examples")):
+    places = [os.path.join(os.path.dirname(os.path.abspath(sys.argv[0])), "pbcnf")]
+    if os.path.isdir(os.path.join(top, "crates")):
         places.append(os.path.join(top, "pbcnf"))
     return (place for place in places if os.path.isfile(place) and os.access(place, os.X_OK))
 
@@ -47,6 +50,10 @@ class Summary:
 
     variables: int
     clauses: int
+    weighted: int = 0
+    """How many weighted sums there are."""
+    adders: int = 0
+    """How many of them are encoded by adders."""
 
 
 @dataclass(frozen=True)
@@ -60,19 +67,30 @@ class Solution:
 
 
 class Program:
-    """The proved program over one problem. What it tells on standard error is the user's to read."""
+    """The proved program over one problem, from a file of this name. What it tells on standard error is the user's to read."""
 
-    def __init__(self, path: str, watch: Watch, workspace: Workspace, problem: bytes) -> None:
+    def __init__(self, path: str, watch: Watch, workspace: Workspace, problem: bytes, name: str) -> None:
         self._path = path
         self._watch = watch
         self._workspace = workspace
+        self.text = problem
+        self._name = name
         self._problem = workspace.write("opb", problem)
 
     def encode(self, options: Sequence[str], cnf: str, proof: Optional[str] = None) -> Summary:
         """Writes the CNF, and a derivation where a path for one is given."""
         files = [self._problem, cnf] + ([proof] if proof else [])
-        counts = self._ask("encode", files, options).split("\n", 1)[0].split(" ")
-        return Summary(int(counts[1]), int(counts[counts.index("clauses") + 1]))
+        return _summary(self._ask("encode", files, options))
+
+    def encode_within(self, size: int, options: Sequence[str], cnf: str) -> Optional[Summary]:
+        """Writes the CNF, if it is not longer than so many bytes; else what is there of it is cut off."""
+        # The shell counts in blocks of 512 bytes.
+        words = ["/bin/sh", "-c", 'ulimit -f "$0" && exec "$@"', str(size // 512 + 1), self._path, "encode", self._problem, cnf, *options]
+        said = self._workspace.path("said")
+        with open(said, "wb") as answer:
+            if self._watch.run(words, stdout=answer, stderr=subprocess.DEVNULL) == 0:
+                return _summary(_read(said))
+        return None
 
     def decode(self, model: str, bound: Sequence[str] = ()) -> Solution:
         """The solution that a solver's text gives."""
@@ -80,11 +98,15 @@ class Program:
         value = next((int(line[2:]) for line in lines if line.startswith("o ")), None)
         return Solution(value, next(line for line in lines if line.startswith("v")))
 
+    def weighted(self, options: Sequence[str], wcnf: str) -> Summary:
+        """Writes the weighted CNF."""
+        return _summary(self._ask("wcnf", [self._problem, wcnf], options))
+
     def values(self, options: Sequence[str]) -> Values:
         """The values that the objective's sum could have, whatever the statements are: its normal form, as `wcnf` writes it, is an
         offset and the weights of the soft clauses."""
         path = self._workspace.path("wcnf")
-        self._ask("wcnf", [self._problem, path], options)
+        self.weighted(options, path)
         with open(path, "rb") as file:
             least = int(file.readline().split()[2])
             weights = [int(line.split(b" ", 1)[0]) for line in file if line[:1].isdigit()]
@@ -99,18 +121,26 @@ class Program:
 
     def _ask(self, command: str, files: List[str], options: Sequence[str]) -> str:
         """What a command says, where it ends with 0; else its status is that of all."""
-        path = self._workspace.path("said")
-        with open(path, "wb") as said:
+        said, told = self._workspace.path("said"), self._workspace.path("told")
+        with open(said, "wb") as answer, open(told, "wb") as error:
             try:
-                status = self._watch.run([self._path, command, *files, *options], stdout=said)
-            except OSError as error:
-                raise Stop(Status.MISSING, "%s: %s" % (self._path, error.strerror))
+                status = self._watch.run([self._path, command, *files, *options], stdout=answer, stderr=error)
+            except OSError as fault:
+                raise Stop(Status.MISSING, "%s: %s" % (self._path, fault.strerror))
         if status != 0:
             self._watch.test()
-            raise Stop(_as_status(status))
+        line = _read(told)
+        tell(line)
+        if status != 0:
+            raise Stop(_as_status(status), self._advice(line) if status == _SYNTAX else "")
         self._skip_launcher()
-        with open(path, encoding="utf-8", errors="surrogateescape") as answer:
-            return answer.read()
+        return _read(said)
+
+    def _advice(self, line: str) -> str:
+        """What is to be said besides the line about a text that was refused."""
+        # It is needed only here, and takes as long to import as the program takes for a small problem.
+        from pbcnf.tools import tidy
+        return tidy.advice(self._name, line, self.text) or ""
 
     def _skip_launcher(self) -> None:
         """Calls the launcher's program itself from now on, once the launcher has run it: one test of it is enough for one problem."""
@@ -122,6 +152,19 @@ class Program:
             return
         if os.path.isfile(tested) and os.access(tested, os.X_OK):
             self._path = tested
+
+
+def _summary(said: str) -> Summary:
+    """The two lines that `encode` says: words and their numbers, in turn."""
+    words = said.split()
+    counts = {word: int(number) for word, number in zip(words[::2], words[1::2])}
+    adders = counts["adder"]
+    return Summary(counts["variables"], counts["clauses"], counts["diagram"] + counts["tree"] + adders, adders)
+
+
+def _read(path: str) -> str:
+    with open(path, encoding="utf-8", errors="surrogateescape") as file:
+        return file.read()
 
 
 def _as_status(status: Optional[int]) -> int:

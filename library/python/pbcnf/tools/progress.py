@@ -21,12 +21,19 @@ class Progress:
         self._error: Optional[IO[str]] = None if quiet else sys.stderr
         self._in_place = self._error is not None and self._error.isatty() and os.environ.get("TERM", "dumb") != "dumb"
         self._known = Found()
-        self._asked: Optional[int] = None
-        self._size: Optional[Summary] = None
+        self._doing = ""
 
     def asks(self, bound: Optional[int], size: Summary) -> None:
         """The solver is about to look for a solution of at most this value, over a CNF of this size."""
-        self._asked, self._size = bound, size
+        words = "any" if bound is None else "at most %d" % bound
+        self._doing = "; %s: %d variables, %d clauses" % (words, size.variables, size.clauses)
+
+    def refutes(self, is_long: bool) -> None:
+        """That there is nothing better is about to be refuted, which may take long."""
+        self._doing = "; having it refuted that any is better"
+        if is_long:
+            self._doing += ", which takes minutes; with CaDiCaL from 1.7 on, or drat-trim on the path, it is quicker"
+            self._write(self._name + self._doing.replace(";", ":", 1) + "\n")
 
     def knows(self, found: Found, seconds: float) -> None:
         """One of the bounds has changed."""
@@ -45,11 +52,7 @@ class Progress:
 
     def line(self, seconds: float) -> str:
         """The line, as `pbcnf-minimize: 0.1 s: -4 <= objective <= 39; at most 17: 80 variables, 352 clauses`."""
-        words = "%s: %.1f s: %s" % (self._name, seconds, self._bounds())
-        if self._size is not None:
-            words += "; %s: %d variables, %d clauses" % (
-                "any" if self._asked is None else "at most %d" % self._asked, self._size.variables, self._size.clauses)
-        return words
+        return "%s: %.1f s: %s%s" % (self._name, seconds, self._bounds(), self._doing)
 
     def _bounds(self) -> str:
         incumbent = self._known.incumbent

@@ -8,10 +8,10 @@ import shutil
 import subprocess
 from dataclasses import dataclass
 from enum import Enum
-from typing import Dict, List, Mapping, Optional, Tuple
+from typing import Dict, List, Mapping, NamedTuple, Optional, Tuple
 
 from pbcnf.tools.statuses import Status, Stop
-from pbcnf.tools.watch import Watch
+from pbcnf.tools.watch import Running, Watch
 
 KNOWN = ("cadical", "kissat", "cryptominisat5", "clasp", "picosat", "glucose", "minisat")
 # The words that each known solver is given so that it prints `s` and `v` lines and little else.
@@ -20,6 +20,8 @@ _WORDS: Dict[str, Tuple[str, ...]] = {"cadical": ("-q",), "kissat": ("-q",), "cr
 _CONFLICTS = {"cadical": ("-c", "%d"), "kissat": ("--conflicts=%d",), "cryptominisat5": ("--maxconfl", "%d")}
 # What MiniSat's file of the result has for the lines of the competitions.
 _MINISAT = {b"SAT": b"s SATISFIABLE", b"UNSAT": b"s UNSATISFIABLE", b"INDET": b"s UNKNOWN"}
+_MINISAT_FILE = ".minisat"
+PROVER = "cadical"
 
 
 class Verdict(Enum):
@@ -28,6 +30,13 @@ class Verdict(Enum):
     MODEL = "SATISFIABLE"
     NO_MODEL = "UNSATISFIABLE"
     UNKNOWN = "UNKNOWN"
+
+
+class Reasons(Enum):
+    """The format in which a solver writes why a CNF has no model, by the words that ask for it."""
+
+    LRAT = ("--lrat", "--no-binary")
+    DRAT = ("--no-binary",)
 
 
 @dataclass(frozen=True)
@@ -42,67 +51,82 @@ class Effort:
         return Effort(self.conflicts * factor, self.seconds * factor)
 
 
+class Files(NamedTuple):
+    """The files of a run: the CNF, what `decode` takes, and why there is no model, if that is asked for."""
+
+    cnf: str
+    model: str
+    reasons: str = ""
+
+
 class Solver:
     """A SAT solver, by the words of its command."""
 
     def __init__(self, command: List[str], watch: Watch) -> None:
         self.name = os.path.basename(command[0])
         self._watch = watch
-        self._command = command + [word for word in _WORDS.get(self.name, ()) if word not in command]
-        self.writes_lrat = self.name == "cadical" and _has_lrat(command[0])
-        self.status: Optional[int] = None
-        """The exit status of the last run; None where it was ended here."""
-        self.gave_up = False
-        """Whether the last run came to its limit, and did not fail."""
+        self._kind = _kind(command)
+        self._command = command + [word for word in _WORDS.get(self._kind, ()) if word not in command]
+        self.reasons = _reasons_of(command[0]) if self._kind == PROVER else None
+        """How it writes why there is no model, if it does."""
 
-    def run(self, cnf: str, model: str, lrat: Optional[str] = None, effort: Optional[Effort] = None) -> Verdict:
-        """Runs it over a CNF: what `decode` takes goes to `model`, and why there is no model to `lrat`, where that is named."""
+    def run(self, files: Files, seconds: Optional[float] = None) -> Run:
+        """Runs it to its end, or for so many seconds."""
+        run = self.start(files, None, seconds)
+        self._watch.wait([run.running])
+        return run
+
+    def start(self, files: Files, effort: Optional[Effort] = None, seconds: Optional[float] = None) -> Run:
+        """Starts it over a CNF."""
         command = list(self._command)
-        seconds = None
         if effort is not None:
-            if self.name in _CONFLICTS:
-                command += [word.replace("%d", str(effort.conflicts)) for word in _CONFLICTS[self.name]]
-            else:
+            command += [word.replace("%d", str(effort.conflicts)) for word in _CONFLICTS.get(self._kind, ())]
+            if self._kind not in _CONFLICTS:
                 seconds = effort.seconds
-        if lrat is not None:
-            command += ["--lrat", "--no-binary"]
-        command.append(cnf)
-        if lrat is not None:
-            command.append(lrat)
-        if self.name == "minisat":
-            return self._run_minisat(command, model, seconds)
-        with open(model, "wb") as said:
-            self.status = self._start(command, said.fileno(), seconds)
-        return self._judge(model)
+        if files.reasons and self.reasons is not None:
+            command += [*self.reasons.value, files.cnf, files.reasons]
+        else:
+            command.append(files.cnf)
+        is_minisat = self._kind == "minisat"
+        if is_minisat:
+            # It writes its values to a second file, in words of its own.
+            command.append(files.model + _MINISAT_FILE)
+        with open(files.model, "wb") as said:
+            try:
+                running = self._watch.start(command, stdout=subprocess.DEVNULL if is_minisat else said.fileno(), seconds=seconds)
+            except OSError as error:
+                raise Stop(Status.MISSING, "%s: %s" % (command[0], error.strerror))
+        return Run(self, running, files.model)
+
+
+class Run:
+    """A run of a solver. What it came to is known once it has ended."""
+
+    def __init__(self, solver: Solver, running: Running, model: str) -> None:
+        self.running = running
+        self._solver = solver
+        self._model = model
+
+    def verdict(self) -> Verdict:
+        """What it says, if it was left to end."""
+        return self._said() or Verdict.UNKNOWN
+
+    @property
+    def gave_up(self) -> bool:
+        """Whether it came to its limit, and did not fail."""
+        return self._said() is Verdict.UNKNOWN or self.running.status in (None, 0)
 
     def ended(self) -> str:
-        """How the last run ended, for a person."""
-        return "%s %s" % (self.name, "was ended" if self.status is None else "ended with status %d" % self.status)
+        """How it ended, for a person."""
+        status = self.running.status
+        return "%s %s" % (self._solver.name, "was ended" if status is None else "ended with status %d" % status)
 
-    def _run_minisat(self, command: List[str], model: str, seconds: Optional[float]) -> Verdict:
-        """MiniSat writes its values to a second file, in words of its own."""
-        result = model + ".minisat"
-        self.status = self._start([*command, result], subprocess.DEVNULL, seconds)
-        first = values = b""
-        if os.path.exists(result):
-            with open(result, "rb") as file:
-                first, values = file.readline().strip(), file.readline()
-            os.unlink(result)
-        with open(model, "wb") as file:
-            file.write((_MINISAT[first] + b"\n" if first in _MINISAT else b"") + (b"v " + values if values else b""))
-        return self._judge(model)
-
-    def _judge(self, model: str) -> Verdict:
-        """What its text says, if it was left to end."""
-        verdict = None if self.status is None else _verdict(model)
-        self.gave_up = verdict is Verdict.UNKNOWN or self.status in (None, 0)
-        return verdict or Verdict.UNKNOWN
-
-    def _start(self, command: List[str], stdout: int, seconds: Optional[float]) -> Optional[int]:
-        try:
-            return self._watch.run(command, stdout=stdout, seconds=seconds)
-        except OSError as error:
-            raise Stop(Status.MISSING, "%s: %s" % (command[0], error.strerror))
+    def _said(self) -> Optional[Verdict]:
+        if self.running.status is None:
+            return None
+        if os.path.exists(self._model + _MINISAT_FILE):
+            _translate_minisat(self._model)
+        return _verdict(self._model)
 
 
 def find(named: Optional[str], environment: Mapping[str, str], watch: Watch) -> Solver:
@@ -117,13 +141,36 @@ def find(named: Optional[str], environment: Mapping[str, str], watch: Watch) -> 
     return Solver(command, watch)
 
 
-def _has_lrat(cadical: str) -> bool:
-    """Whether this CaDiCaL writes LRAT, as it does from 1.7 on: its help says so."""
+def find_prover(named: Optional[str], environment: Mapping[str, str], watch: Watch) -> Optional[Solver]:
+    """A solver that says why there is no model: the one that is named, if it does, else CaDiCaL from the path, if it is there."""
+    for word in (named, environment.get("SOLVER"), PROVER):
+        command = word.split() if word else []
+        if command and _kind(command) == PROVER and shutil.which(command[0]):
+            return Solver(command, watch)
+    return None
+
+
+def _kind(command: List[str]) -> str:
+    """Which of the known solvers it is, by its name: `cadical-1.9.5` is CaDiCaL, too."""
+    return os.path.basename(command[0]).split("-", 1)[0]
+
+
+def _reasons_of(cadical: str) -> Reasons:
+    """How this CaDiCaL writes them: in LRAT from 1.7 on, as its help says."""
     try:
         said = subprocess.run([cadical, "--help"], stdin=subprocess.DEVNULL, stdout=subprocess.PIPE, stderr=subprocess.DEVNULL, check=False).stdout
     except OSError:
-        return False
-    return b"--lrat" in said
+        return Reasons.DRAT
+    return Reasons.LRAT if b"--lrat" in said else Reasons.DRAT
+
+
+def _translate_minisat(model: str) -> None:
+    """Makes of MiniSat's result what the others print."""
+    with open(model + _MINISAT_FILE, "rb") as file:
+        first, values = file.readline().strip(), file.readline()
+    os.unlink(model + _MINISAT_FILE)
+    with open(model, "wb") as made:
+        made.write((_MINISAT[first] + b"\n" if first in _MINISAT else b"") + (b"v " + values if values else b""))
 
 
 def _verdict(model: str) -> Optional[Verdict]:

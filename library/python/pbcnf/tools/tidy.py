@@ -19,7 +19,7 @@ import pbcnf
 from pbcnf.tools import opb_text, sources
 from pbcnf.tools.causes import Unreadable, shown
 from pbcnf.tools.mending import Change, mend
-from pbcnf.tools.output import complain, say, test_output
+from pbcnf.tools.output import complain, say, status_of, test_output
 from pbcnf.tools.statuses import Status, Stop
 from pbcnf.tools.workspace import Workspace, put_whole
 
@@ -47,13 +47,7 @@ def main(words: Optional[List[str]] = None) -> int:
     parser.add_argument("--keep", metavar="FILE", help="write there, whole or not at all, and not to standard output")
     parser.add_argument("--version", action="version", version="pbcnf " + pbcnf.__version__)
     given = parser.parse_args(words)
-    try:
-        return _run(given)
-    except Stop as stop:
-        complain(_NAME, stop.words)
-        return stop.status
-    except KeyboardInterrupt:
-        return 130
+    return status_of(_NAME, lambda: _run(given))
 
 
 def _run(given: argparse.Namespace) -> int:
@@ -61,20 +55,26 @@ def _run(given: argparse.Namespace) -> int:
         test_output()
     elif given.opb != "-" and os.path.exists(given.keep) and os.path.exists(given.opb) and os.path.samefile(given.opb, given.keep):
         raise Stop(Status.UNWRITTEN, "%s: it is the file that is read" % given.keep)
-    text, unpacked = unpack(sources.read(given.opb), given.opb)
-    for words in unpacked:
-        complain(_NAME, words)
-    try:
-        rewritten, changes = mend(text)
-    except Unreadable as fault:
-        raise Stop(_REFUSED, "OPB %d:%d: %s" % (*opb_text.place(text, fault.at), fault.cause)) from None
-    for place, change in zip(opb_text.places(text, [change.at for change in changes]), changes):
-        complain(_NAME, "OPB %d:%d: %s" % (*place, _said(change)))
+    rewritten = read(given.opb, _NAME)
     if given.keep is None:
         say(rewritten.decode("utf-8", "surrogateescape"))
     else:
         _keep(rewritten, given.keep)
     return Status.DONE
+
+
+def read(opb: str, name: str) -> bytes:
+    """The text of a file, rewritten; the command of this name says each change."""
+    text, unpacked = unpack(sources.read(opb), opb)
+    for words in unpacked:
+        complain(name, words)
+    try:
+        rewritten, changes = mend(text)
+    except Unreadable as fault:
+        raise Stop(_REFUSED, "OPB %d:%d: %s" % (*opb_text.place(text, fault.at), fault.cause)) from None
+    for place, change in zip(opb_text.places(text, [change.at for change in changes]), changes):
+        complain(name, "OPB %d:%d: %s" % (*place, _said(change)))
+    return rewritten
 
 
 def unpack(text: bytes, name: str) -> Tuple[bytes, List[str]]:

@@ -1,4 +1,4 @@
-"""Runs other programs, and ends them at signals and at the limit of time.
+"""Runs other programs, also some at once, and ends them at signals and at the limit of time.
 
 A signal only leaves a mark here, and a byte in a pipe that wakes up who waits for a program. So it is never met in the middle of
 what puts things in order, and a program that ends is seen at once, without asking again and again.
@@ -13,7 +13,7 @@ import signal
 import subprocess
 import time
 from types import FrameType, TracebackType
-from typing import IO, Callable, Dict, Optional, Sequence, Type, Union
+from typing import IO, Callable, Dict, List, Optional, Sequence, Type, Union
 
 _ENDING = (signal.SIGHUP, signal.SIGINT, signal.SIGTERM)
 # So long a program has to end by itself when it is asked to.
@@ -35,6 +35,39 @@ class Interrupted(Exception):
         self.signal = number
 
 
+class Running:
+    """A program that was started."""
+
+    def __init__(self, child: subprocess.Popen[bytes], limit: Optional[float]) -> None:
+        self.child = child
+        self.limit = limit
+        """When it is to be ended, if not before."""
+        self.status: Optional[int] = None
+        """Its exit status, negative for a signal; None as long as it runs, and where it was ended here."""
+        self.output = child.stdout
+        """What it says, if that is heard."""
+        self._said = b""
+
+    def listen(self) -> bool:
+        """Whether it has said more."""
+        if self.output is None:
+            return False
+        try:
+            piece = os.read(self.output.fileno(), 1 << 20)
+        except BlockingIOError:
+            return False
+        if not piece:
+            self.output.close()
+            self.output = None
+        self._said += piece
+        return bool(piece)
+
+    def take(self) -> bytes:
+        """What it has said since this was asked for."""
+        said, self._said = self._said, b""
+        return said
+
+
 class Watch:
     """Looks out for signals and for the end of the time, from `with` on, while other programs run."""
 
@@ -42,6 +75,7 @@ class Watch:
         self._began = time.monotonic()
         self._end = None if seconds is None else self._began + seconds
         self._tick = tick
+        self._running: List[Running] = []
         self._came: Optional[int] = None
         self._before: Dict[int, Handler] = {}
         self._pipe = (-1, -1)
@@ -62,6 +96,7 @@ class Watch:
         return self
 
     def __exit__(self, kind: Optional[Type[BaseException]], value: Optional[BaseException], trace: Optional[TracebackType]) -> None:
+        self.end_all()
         for number, handler in self._before.items():
             signal.signal(number, handler)
         signal.set_wakeup_fd(self._wakeup)
@@ -85,32 +120,63 @@ class Watch:
             raise Interrupted(None)
 
     def run(self, command: Sequence[str], stdout: Stream = None, stderr: Stream = None, seconds: Optional[float] = None) -> Optional[int]:
-        """Runs a program to its end, and gives its exit status, negative for a signal; None where it took more than these seconds.
+        """Runs a program to its end, and gives its exit status; None where it took more than these seconds."""
+        running = self.start(command, stdout, stderr, seconds)
+        try:
+            return self.wait([running]).status
+        finally:
+            self.end(running)
+
+    def start(
+            self, command: Sequence[str], stdout: Stream = None, stderr: Stream = None, seconds: Optional[float] = None, is_heard: bool = False) -> Running:
+        """Starts a program, which may run for so many seconds. What it says may be heard here, and not go to a file.
 
         It and all that it starts are a session of their own: Ctrl-C reaches this process alone, which ends them all.
         """
         self.test()
+        if is_heard:
+            stdout = subprocess.PIPE
         child = subprocess.Popen(command, stdin=subprocess.DEVNULL, stdout=stdout, stderr=stderr, restore_signals=False, start_new_session=True)
-        try:
-            return child.returncode if self._await(child, seconds) else None
-        finally:
-            _end(child)
+        if child.stdout is not None:
+            os.set_blocking(child.stdout.fileno(), False)
+        running = Running(child, None if seconds is None else time.monotonic() + seconds)
+        self._running.append(running)
+        return running
 
-    def _await(self, child: subprocess.Popen[bytes], seconds: Optional[float]) -> bool:
-        """Whether the program ends within these seconds."""
-        limit = None if seconds is None else time.monotonic() + seconds
-        while child.poll() is None:
+    def wait(self, some: Sequence[Running]) -> Running:
+        """Gives the first of these programs that ends, by itself or at its limit, or that is heard."""
+        while True:
             self.test()
             now = time.monotonic()
-            if limit is not None and now >= limit:
-                return False
-            ends = [_LONG] + [end - now for end in (limit, self._end) if end is not None]
+            for running in some:
+                has_ended = running.child.poll() is not None
+                # What has ended has said all that can be heard.
+                if running.listen():
+                    return running
+                if has_ended or (running.limit is not None and now >= running.limit):
+                    running.status = running.child.returncode
+                    self.end(running)
+                    return running
+            ends = [_LONG] + [end - now for end in (self._end, *(running.limit for running in some)) if end is not None]
             if self._tick is not None:
                 ends.append(_TICK)
                 self._tick(self.seconds)
-            select.select([self._pipe[0]], [], [], max(0.0, min(ends)))
+            outputs = [running.output for running in some if running.output is not None]
+            select.select([self._pipe[0], *outputs], [], [], max(0.0, min(ends)))
             self._drain()
-        return True
+
+    def end(self, running: Running) -> None:
+        """Ends a program where it still runs."""
+        if running in self._running:
+            self._running.remove(running)
+            _end(running.child)
+            if running.output is not None:
+                running.output.close()
+
+    def end_all(self) -> None:
+        """Ends all programs that still run, as before their files go."""
+        for running in list(self._running):
+            self.end(running)
 
     def _drain(self) -> None:
         try:

@@ -2,14 +2,16 @@
 
 from __future__ import annotations
 
+import contextlib
 import os
 import shutil
 import tempfile
 from types import TracebackType
-from typing import Optional, Type
+from typing import Iterator, Optional, Type
 
 from pbcnf.tools.output import Unheard
 from pbcnf.tools.statuses import Status, Stop
+from pbcnf.tools.watch import Watch
 
 
 # Where less is left, files are taken to have been cut off for want of room.
@@ -51,6 +53,18 @@ class Workspace:
         if isinstance(stop, Unheard) or shutil.disk_usage(self.folder).free >= _ROOM:
             return stop
         return Stop(Status.UNWRITTEN, "no room is left in %s for temporary files; TMPDIR may name another folder" % self.folder)
+
+
+@contextlib.contextmanager
+def workspace_of(watch: Watch) -> Iterator[Workspace]:
+    """A workspace for the programs that a watch runs: they are ended before their files go, and what stops for want of room says so."""
+    with watch, Workspace() as workspace:
+        try:
+            yield workspace
+        except Stop as stop:
+            raise workspace.blame(stop)
+        finally:
+            watch.end_all()
 
 
 def put_whole(source: str, target: str) -> None:

@@ -1,0 +1,174 @@
+"""What the calls of the library are passed: the values of Python as texts, numbers and arrays, or why they are none."""
+
+from __future__ import annotations
+
+import ctypes
+from array import array
+from collections.abc import Mapping as Mappings
+from operator import index
+from typing import Any, Callable, Dict, Iterable, List, Mapping, NamedTuple, Optional, Tuple
+
+from pbcnf._native import Bound, Options, Side
+from pbcnf.errors import Usage
+
+WORDS: Dict[str, Tuple[str, ...]] = {
+    "amo": ("auto", "pairwise", "ladder", "product"),
+    "card": ("auto", "counter", "totalizer"),
+    "general": ("diagram", "tree", "adder"),
+    "equal": ("split", "joint"),
+}
+RELATIONS = {">=": 0, "<=": 1, "=": 2}
+_BUDGET, _MOST_BUDGET, _MOST_FIRST = 50_000, 10_000_000, 1 << 31
+
+
+def usage(words: str) -> Usage:
+    return Usage("pbcnf: usage: " + words)
+
+
+# --- Texts
+
+
+def text_of(value: Any) -> bytes:
+    """A text's bytes: of a `str`, or of anything whose bytes can be seen, as `bytes`, `bytearray`, `memoryview` and `mmap`."""
+    if isinstance(value, bytes):
+        return value
+    text = _text_in(value)
+    if text is None:
+        raise TypeError("a text is str or bytes, and not %s" % type(value).__name__)
+    return text
+
+
+def _text_in(value: Any) -> Optional[bytes]:
+    if isinstance(value, str):
+        return value.encode("utf-8", "surrogateescape")
+    try:
+        view = memoryview(value)
+    except TypeError:
+        return None
+    # An array of numbers that are no bytes is no text.
+    return view.tobytes() if view.format in ("B", "c") else None
+
+
+def model_of(value: Any) -> bytes:
+    """A solver's text, or the one of a solver whose model has these true literals."""
+    text = _text_in(value)
+    if text is not None:
+        return text
+    if isinstance(value, Mappings):
+        raise TypeError("a model is a solver's text or its true literals, and not %s" % type(value).__name__)
+    literals = [_literal(literal) for literal in value]
+    listed = set(literals)
+    both = next((literal for literal in literals if literal and -literal in listed), None)
+    if both is not None:
+        raise usage("the model has both %d and %d" % (both, -both))
+    return b"s SATISFIABLE\nv %s 0\n" % " ".join(str(literal) for literal in literals if literal).encode()
+
+
+def _literal(value: Any) -> int:
+    if isinstance(value, bool):
+        raise TypeError("a literal is a whole number, and not %s" % value)
+    literal = index(value)
+    if abs(literal) >= _MOST_FIRST:
+        raise usage("no variable has the literal %d" % literal)
+    return literal
+
+
+# --- Options and bounds
+
+
+def options_of(chosen: Mapping[str, Any], table: bool = False) -> Options:
+    options = Options(budget=_BUDGET, table=bool(table))
+    for name, value in chosen.items():
+        if name in WORDS:
+            if value not in WORDS[name]:
+                raise usage("%s is one of %s, and not %r" % (name, ", ".join(WORDS[name]), value))
+            setattr(options, name, WORDS[name].index(value))
+        elif name == "budget":
+            options.budget = _within(index(value))
+        else:
+            raise TypeError("%s is no option" % name)
+    return options
+
+
+def _within(value: int) -> int:
+    """A number, or 0 in the place of one that the type has not, which is no budget and no first variable either."""
+    return value if 0 <= value < 1 << 32 else 0
+
+
+def bound_of(at_most: Optional[int]) -> Bound:
+    return Bound() if at_most is None else Bound(1, *_words(index(at_most), "at_most"))
+
+
+def _words(value: int, what: str) -> Tuple[int, int]:
+    """A number in two's complement of 128 bits, as its low and its high word."""
+    if not -(1 << 127) <= value < 1 << 127:
+        raise usage("%s does not fit in 128 bits" % what)
+    return value & ((1 << 64) - 1), (value >> 64) & ((1 << 64) - 1)
+
+
+# --- A whole problem, and one constraint
+
+
+class Posed(NamedTuple):
+    """What a call is passed before its room."""
+
+    given: List[object]
+    amount: int
+    """The bytes of the text, or the terms of the constraint: by these a room is guessed."""
+    usage: Callable[[], Usage] = lambda: usage("the library takes none of these numbers")
+    """Says what the library does not take, once it has refused the numbers."""
+
+
+def posed(opb: Any, at_most: Optional[int], chosen: Mapping[str, Any], table: bool = False) -> Posed:
+    text, options, bound = text_of(opb), options_of(chosen, table), bound_of(at_most)
+    return Posed([text, len(text), options, bound], len(text), lambda: _usage_of(chosen))
+
+
+class _Block:
+    """An array that a call is passed by its address, and which has one even if it is empty."""
+
+    def __init__(self, items: array[int]) -> None:
+        self.items = items if items else array(items.typecode, [0])
+        self._as_parameter_ = ctypes.c_void_p(self.items.buffer_info()[0])
+
+
+def posed_one(terms: Iterable[Tuple[int, int]], relation: str, right: int, first: int, chosen: Mapping[str, Any]) -> Posed:
+    pairs = list(terms)
+    coefficients, literals = _coefficients([coefficient for coefficient, _ in pairs]), _literals([literal for _, literal in pairs])
+    if relation not in RELATIONS:
+        raise usage("a relation is one of >=, <= and =, and not %r" % (relation,))
+    side = Side(RELATIONS[relation], _within(index(first)), *_words(index(right), "the right side"))
+    given = [_Block(coefficients), len(coefficients), _Block(literals), len(literals), side, options_of(chosen)]
+    return Posed(given, len(pairs), lambda: _usage_of_one([index(literal) for _, literal in pairs], index(first), chosen))
+
+
+def _coefficients(values: List[int]) -> array[int]:
+    """A word for each, if one is enough, else two."""
+    try:
+        return array("q", values)
+    except OverflowError:
+        return array("Q", [word for value in values for word in _words(index(value), "a coefficient")])
+
+
+def _literals(values: List[int]) -> array[int]:
+    """The literals, with 0 in the place of a number that is none, so that the library refuses it."""
+    try:
+        return array("i", values)
+    except OverflowError:
+        return array("i", [literal if abs(literal) < _MOST_FIRST else 0 for literal in map(index, values)])
+
+
+# --- What it is that the library does not take
+
+
+def _usage_of(chosen: Mapping[str, Any]) -> Usage:
+    return usage("the budget is %d, and not from 1 to %d" % (index(chosen.get("budget", _BUDGET)), _MOST_BUDGET))
+
+
+def _usage_of_one(literals: List[int], first: int, chosen: Mapping[str, Any]) -> Usage:
+    if not 1 <= index(chosen.get("budget", _BUDGET)) <= _MOST_BUDGET:
+        return _usage_of(chosen)
+    if not 1 <= first <= _MOST_FIRST:
+        return usage("the first fresh variable is %d, and not from 1 to %d" % (first, _MOST_FIRST))
+    number, literal = next((number, literal) for number, literal in enumerate(literals, 1) if not 1 <= abs(literal) < first)
+    return usage("the literal of term %d is %d, and not of a variable from 1 to %d" % (number, literal, first - 1))
