@@ -12,12 +12,13 @@
  *
  * The caller owes:
  *  - a pointer and its count are those of one array, whole, which no other code writes during the call, nor reads where it is
- *    written. No pointer is null, not even one of an empty array (pass the address of anything of its type), and each is
- *    aligned for its type;
+ *    written. It is aligned for its type. It may be null, or any other, if its count is 0; then nobody looks at it. (That holds
+ *    of this header, by the fronts at its end. Who calls the exports by their names from elsewhere passes an address always.)
+ *    A pointer to a struct or a number is never null;
  *  - what a call writes (room, size, length, count, refusal) overlaps nothing else that is passed to it. What it only reads
  *    may overlap;
- *  - malloc, realloc and free are those of one allocator, and no call is made from a signal handler, nor in the forked child of
- *    a process with several threads.
+ *  - malloc, realloc and free are those of one allocator, and no call is made from where they must not be: a signal handler, or
+ *    the forked child of a process with several threads. In such a child glibc's malloc works, and so do the calls over it.
  * What the call takes while it works it gives back before it returns. Texts are bytes; none ends in a 0 byte of its own.
  */
 #ifndef PBCNF_H
@@ -28,7 +29,15 @@
 extern "C" {
 #endif
 
-#define PBCNF_VERSION "0.2.0"
+#define PBCNF_VERSION "0.3.0"
+/* Which structs, numbers and meanings the calls below have. A library of others answers another number by pbcnf_abi. */
+#define PBCNF_ABI 1
+
+/* The version of the library that is there: a byte for each of its three numbers, 0x000300 for 0.3.0. */
+uint32_t pbcnf_version(void);
+
+/* PBCNF_ABI of the library that is there. A program that did not come with it asks this before any other call. */
+uint32_t pbcnf_abi(void);
 
 /* ---- statuses: those of the program. PBCNF_UNREAD is not returned. */
 enum {
@@ -94,84 +103,93 @@ typedef struct {
   uint32_t unproved; /* why a line of a refutation is none: PBCNF_UNPROVED_... */
 } pbcnf_refusal;
 
-enum { PBCNF_FILE_NONE, PBCNF_FILE_OPB, PBCNF_FILE_CNF, PBCNF_FILE_PROOF, PBCNF_FILE_MODEL, PBCNF_FILE_LRAT };
+/* The numbers below stay as they are; what is new gets the next one. */
 
 enum {
-  PBCNF_LIMIT_NONE,
-  PBCNF_LIMIT_TEXT,       /* bytes of a text: 2^32 of OPB and model, 2^62 of CNF and derivation */
-  PBCNF_LIMIT_STATEMENTS, /* 2^24 */
-  PBCNF_LIMIT_TERMS,      /* of one statement or of the objective: 2^20 */
-  PBCNF_LIMIT_WEIGHT,     /* the absolute values of one statement's numbers, added up: below 2^100 */
-  PBCNF_LIMIT_BOUNDS,     /* fresh variables of a table of bounds: the budget */
-  PBCNF_LIMIT_VARIABLES,  /* 2^31 - 1 */
-  PBCNF_LIMIT_CLAUSES,    /* 2^36 */
-  PBCNF_LIMIT_LINE,       /* bytes of a line: 2^28 */
-  PBCNF_LIMIT_LINES,      /* 2^40 */
-  PBCNF_LIMIT_NUMBER,     /* the absolute value of a number: below 2^126 */
-  PBCNF_LIMIT_NAME        /* bytes of a free name: 255 */
+  PBCNF_FILE_NONE = 0,
+  PBCNF_FILE_OPB = 1,
+  PBCNF_FILE_CNF = 2,
+  PBCNF_FILE_PROOF = 3,
+  PBCNF_FILE_MODEL = 4,
+  PBCNF_FILE_LRAT = 5
 };
 
 enum {
-  PBCNF_EXPECTED_NONE,
-  PBCNF_EXPECTED_START,             /* OPB: min:, a statement or the end */
-  PBCNF_EXPECTED_NEXT,              /* OPB: a statement or the end */
-  PBCNF_EXPECTED_TERM_OR_RELATION,  /* OPB: a coefficient or a relation */
-  PBCNF_EXPECTED_TERM_OR_SEMICOLON, /* OPB: a coefficient or ; */
-  PBCNF_EXPECTED_LITERAL,           /* a literal */
-  PBCNF_EXPECTED_INTEGER,           /* an integer */
-  PBCNF_EXPECTED_SEMICOLON,         /* ; */
-  PBCNF_EXPECTED_P_LINE,            /* CNF: p line */
-  PBCNF_EXPECTED_CNF_WORD,          /* CNF: cnf word */
-  PBCNF_EXPECTED_VAR_COUNT,         /* CNF: var count */
-  PBCNF_EXPECTED_CLAUSE_COUNT,      /* CNF: clause count */
-  PBCNF_EXPECTED_LINE_END,          /* line end */
-  PBCNF_EXPECTED_CLAUSE_WORD,       /* CNF: clause word */
-  PBCNF_EXPECTED_CNF_END,           /* CNF: cnf end */
-  PBCNF_EXPECTED_MODEL_LINE,        /* model: model line */
-  PBCNF_EXPECTED_MODEL_LITERAL,     /* model: model literal */
-  PBCNF_EXPECTED_OPPOSITE,          /* model: opposite */
-  PBCNF_EXPECTED_MODEL_ZERO,        /* model: model zero */
-  PBCNF_EXPECTED_HEAD,              /* derivation: head */
-  PBCNF_EXPECTED_LOADED,            /* derivation: loaded */
-  PBCNF_EXPECTED_LOADED_COUNT,      /* derivation: loaded count */
-  PBCNF_EXPECTED_STEP_WORD,         /* derivation: step word */
-  PBCNF_EXPECTED_OPERAND,           /* derivation: operand */
-  PBCNF_EXPECTED_FACTOR,            /* derivation: factor */
-  PBCNF_EXPECTED_TERM,              /* derivation: term */
-  PBCNF_EXPECTED_ID,                /* derivation: id */
-  PBCNF_EXPECTED_SET_VAR,           /* derivation: set var */
-  PBCNF_EXPECTED_ARROW,             /* derivation: arrow */
-  PBCNF_EXPECTED_BIT,               /* derivation: bit */
-  PBCNF_EXPECTED_DERIVATION_END,    /* derivation: derivation end */
-  PBCNF_EXPECTED_LRAT_ID,           /* LRAT: lrat id */
-  PBCNF_EXPECTED_LRAT_LITERAL,      /* LRAT: lrat literal */
-  PBCNF_EXPECTED_LRAT_HINT,         /* LRAT: lrat hint */
-  PBCNF_EXPECTED_LRAT_END           /* LRAT: lrat end */
+  PBCNF_LIMIT_NONE = 0,
+  PBCNF_LIMIT_TEXT = 1,       /* bytes of a text: 2^32 of OPB and model, 2^62 of CNF and derivation */
+  PBCNF_LIMIT_STATEMENTS = 2, /* 2^24 */
+  PBCNF_LIMIT_TERMS = 3,      /* of one statement or of the objective: 2^20 */
+  PBCNF_LIMIT_WEIGHT = 4,     /* the absolute values of one statement's numbers, added up: below 2^100 */
+  PBCNF_LIMIT_BOUNDS = 5,     /* fresh variables of a table of bounds: the budget */
+  PBCNF_LIMIT_VARIABLES = 6,  /* 2^31 - 1 */
+  PBCNF_LIMIT_CLAUSES = 7,    /* 2^36 */
+  PBCNF_LIMIT_LINE = 8,       /* bytes of a line: 2^28 */
+  PBCNF_LIMIT_LINES = 9,      /* 2^40 */
+  PBCNF_LIMIT_NUMBER = 10,    /* the absolute value of a number: below 2^126 */
+  PBCNF_LIMIT_NAME = 11       /* bytes of a free name: 255 */
+};
+
+enum {
+  PBCNF_EXPECTED_NONE = 0,
+  PBCNF_EXPECTED_START = 1,             /* OPB: min:, a statement or the end */
+  PBCNF_EXPECTED_NEXT = 2,              /* OPB: a statement or the end */
+  PBCNF_EXPECTED_TERM_OR_RELATION = 3,  /* OPB: a coefficient or a relation */
+  PBCNF_EXPECTED_TERM_OR_SEMICOLON = 4, /* OPB: a coefficient or ; */
+  PBCNF_EXPECTED_LITERAL = 5,           /* a literal */
+  PBCNF_EXPECTED_INTEGER = 6,           /* an integer */
+  PBCNF_EXPECTED_SEMICOLON = 7,         /* ; */
+  PBCNF_EXPECTED_P_LINE = 8,            /* CNF: p line */
+  PBCNF_EXPECTED_CNF_WORD = 9,          /* CNF: cnf word */
+  PBCNF_EXPECTED_VAR_COUNT = 10,        /* CNF: var count */
+  PBCNF_EXPECTED_CLAUSE_COUNT = 11,     /* CNF: clause count */
+  PBCNF_EXPECTED_LINE_END = 12,         /* line end */
+  PBCNF_EXPECTED_CLAUSE_WORD = 13,      /* CNF: clause word */
+  PBCNF_EXPECTED_CNF_END = 14,          /* CNF: cnf end */
+  PBCNF_EXPECTED_MODEL_LINE = 15,       /* model: model line */
+  PBCNF_EXPECTED_MODEL_LITERAL = 16,    /* model: model literal */
+  PBCNF_EXPECTED_OPPOSITE = 17,         /* model: opposite */
+  PBCNF_EXPECTED_MODEL_ZERO = 18,       /* model: model zero */
+  PBCNF_EXPECTED_HEAD = 19,             /* derivation: head */
+  PBCNF_EXPECTED_LOADED = 20,           /* derivation: loaded */
+  PBCNF_EXPECTED_LOADED_COUNT = 21,     /* derivation: loaded count */
+  PBCNF_EXPECTED_STEP_WORD = 22,        /* derivation: step word */
+  PBCNF_EXPECTED_OPERAND = 23,          /* derivation: operand */
+  PBCNF_EXPECTED_FACTOR = 24,           /* derivation: factor */
+  PBCNF_EXPECTED_TERM = 25,             /* derivation: term */
+  PBCNF_EXPECTED_ID = 26,               /* derivation: id */
+  PBCNF_EXPECTED_SET_VAR = 27,          /* derivation: set var */
+  PBCNF_EXPECTED_ARROW = 28,            /* derivation: arrow */
+  PBCNF_EXPECTED_BIT = 29,              /* derivation: bit */
+  PBCNF_EXPECTED_DERIVATION_END = 30,   /* derivation: derivation end */
+  PBCNF_EXPECTED_LRAT_ID = 31,          /* LRAT: lrat id */
+  PBCNF_EXPECTED_LRAT_LITERAL = 32,     /* LRAT: lrat literal */
+  PBCNF_EXPECTED_LRAT_HINT = 33,        /* LRAT: lrat hint */
+  PBCNF_EXPECTED_LRAT_END = 34          /* LRAT: lrat end */
 };
 
 /* Why a step of a derivation is not allowed. N is the number that is told beside. */
 enum {
-  PBCNF_DENIED_NONE,
-  PBCNF_DENIED_UNKNOWN_VAR,    /* unknown variable xN */
-  PBCNF_DENIED_UNKNOWN_ID,     /* unknown id N */
-  PBCNF_DENIED_STACK,          /* stack */
-  PBCNF_DENIED_WIDTH,          /* width */
-  PBCNF_DENIED_SETS_ORIGINAL,  /* sets original xN */
-  PBCNF_DENIED_NOT_PROPAGATED, /* not propagated */
-  PBCNF_DENIED_OBLIGATION,     /* obligation N */
-  PBCNF_DENIED_NO_CLAUSE,      /* no clause */
-  PBCNF_DENIED_NOT_IMPLIED,    /* not implied by N */
-  PBCNF_DENIED_OUT_DELETED,    /* deletes output N */
-  PBCNF_DENIED_CLAUSES_LEFT    /* clauses left */
+  PBCNF_DENIED_NONE = 0,
+  PBCNF_DENIED_UNKNOWN_VAR = 1,    /* unknown variable xN */
+  PBCNF_DENIED_UNKNOWN_ID = 2,     /* unknown id N */
+  PBCNF_DENIED_STACK = 3,          /* stack */
+  PBCNF_DENIED_WIDTH = 4,          /* width */
+  PBCNF_DENIED_SETS_ORIGINAL = 5,  /* sets original xN */
+  PBCNF_DENIED_NOT_PROPAGATED = 6, /* not propagated */
+  PBCNF_DENIED_OBLIGATION = 7,     /* obligation N */
+  PBCNF_DENIED_NO_CLAUSE = 8,      /* no clause */
+  PBCNF_DENIED_NOT_IMPLIED = 9,    /* not implied by N */
+  PBCNF_DENIED_OUT_DELETED = 10,   /* deletes output N */
+  PBCNF_DENIED_CLAUSES_LEFT = 11   /* clauses left */
 };
 
 /* Why a line of a refutation is none; the last, where the text ended before this line. */
 enum {
-  PBCNF_UNPROVED_NONE,
-  PBCNF_UNPROVED_OLD_ID,         /* old id N */
-  PBCNF_UNPROVED_UNKNOWN_HINT,   /* unknown hint N */
-  PBCNF_UNPROVED_NO_CONFLICT,    /* no conflict */
-  PBCNF_UNPROVED_NO_EMPTY_CLAUSE /* no empty clause */
+  PBCNF_UNPROVED_NONE = 0,
+  PBCNF_UNPROVED_OLD_ID = 1,         /* old id N */
+  PBCNF_UNPROVED_UNKNOWN_HINT = 2,   /* unknown hint N */
+  PBCNF_UNPROVED_NO_CONFLICT = 3,    /* no conflict */
+  PBCNF_UNPROVED_NO_EMPTY_CLAUSE = 4 /* no empty clause */
 };
 
 /* ---- a whole problem, as an OPB text */
@@ -259,6 +277,87 @@ uint8_t pbcnf_words(const pbcnf_refusal *refusal, uint8_t *said, size_t room, ui
 static inline void pbcnf_add_all(const int32_t *integers, uint64_t length, void *solver, void (*add)(void *, int32_t)) {
   for (uint64_t i = 0; i < length; i++) add(solver, integers[i]);
 }
+
+/* ---- fronts. An empty vector has no address, and a slice of the library always has one: so each call is made by a function that
+ * stands before it under its name, and that puts an address in the place of a pointer whose count is 0. With PBCNF_EXPORTS defined
+ * before this header is included there are none, and the calls are the exports alone. */
+#ifndef PBCNF_EXPORTS
+
+#define PBCNF_FRONT(name, array, item) \
+  static inline array *name(array *pointer, size_t count) { \
+    static item nothing; \
+    return count ? pointer : &nothing; \
+  }
+PBCNF_FRONT(pbcnf_text_front, const uint8_t, uint8_t)
+PBCNF_FRONT(pbcnf_bytes_front, uint8_t, uint8_t)
+PBCNF_FRONT(pbcnf_integers_front, int32_t, int32_t)
+PBCNF_FRONT(pbcnf_literals_front, const int32_t, int32_t)
+PBCNF_FRONT(pbcnf_coefficients_front, const uint64_t, uint64_t)
+PBCNF_FRONT(pbcnf_rows_front, pbcnf_row, pbcnf_row)
+#undef PBCNF_FRONT
+
+/* A call over a problem. */
+#define PBCNF_FRONT(name, item, front) \
+  static inline uint8_t name##_front(const uint8_t *opb, size_t opb_len, const pbcnf_options *options, const pbcnf_bound *bound, \
+                                     item *put, size_t room, pbcnf_size *size, pbcnf_refusal *refusal) { \
+    return name(pbcnf_text_front(opb, opb_len), opb_len, options, bound, front(put, room), room, size, refusal); \
+  }
+PBCNF_FRONT(pbcnf_encode, uint8_t, pbcnf_bytes_front)
+PBCNF_FRONT(pbcnf_clauses, int32_t, pbcnf_integers_front)
+PBCNF_FRONT(pbcnf_derive, uint8_t, pbcnf_bytes_front)
+PBCNF_FRONT(pbcnf_bounds, pbcnf_row, pbcnf_rows_front)
+PBCNF_FRONT(pbcnf_wcnf, uint8_t, pbcnf_bytes_front)
+#undef PBCNF_FRONT
+
+/* A call over one constraint. */
+#define PBCNF_FRONT(name, item, front) \
+  static inline uint8_t name##_front(const uint64_t *coefficients, size_t words, const int32_t *literals, size_t count, \
+                                     const pbcnf_side *side, const pbcnf_options *options, item *put, size_t room, \
+                                     pbcnf_size *size, pbcnf_refusal *refusal) { \
+    return name(pbcnf_coefficients_front(coefficients, words), words, pbcnf_literals_front(literals, count), count, side, options, \
+                front(put, room), room, size, refusal); \
+  }
+PBCNF_FRONT(pbcnf_constraint, int32_t, pbcnf_integers_front)
+PBCNF_FRONT(pbcnf_constraint_derive, uint8_t, pbcnf_bytes_front)
+#undef PBCNF_FRONT
+
+static inline uint8_t pbcnf_decode_front(const uint8_t *opb, size_t opb_len, const pbcnf_bound *bound, const uint8_t *model,
+                                         size_t model_len, uint8_t *said, size_t room, uint64_t *length, pbcnf_refusal *refusal) {
+  return pbcnf_decode(pbcnf_text_front(opb, opb_len), opb_len, bound, pbcnf_text_front(model, model_len), model_len,
+                      pbcnf_bytes_front(said, room), room, length, refusal);
+}
+static inline uint8_t pbcnf_map_front(const uint8_t *opb, size_t opb_len, uint8_t *said, size_t room, uint64_t *length,
+                                      pbcnf_refusal *refusal) {
+  return pbcnf_map(pbcnf_text_front(opb, opb_len), opb_len, pbcnf_bytes_front(said, room), room, length, refusal);
+}
+static inline uint8_t pbcnf_check_front(const uint8_t *opb, size_t opb_len, const pbcnf_bound *bound, const uint8_t *cnf,
+                                        size_t cnf_len, const uint8_t *proof, size_t proof_len, pbcnf_refusal *refusal) {
+  return pbcnf_check(pbcnf_text_front(opb, opb_len), opb_len, bound, pbcnf_text_front(cnf, cnf_len), cnf_len,
+                     pbcnf_text_front(proof, proof_len), proof_len, refusal);
+}
+static inline uint8_t pbcnf_refute_front(const uint8_t *opb, size_t opb_len, const pbcnf_bound *bound, const uint8_t *cnf,
+                                         size_t cnf_len, const uint8_t *proof, size_t proof_len, const uint8_t *lrat,
+                                         size_t lrat_len, pbcnf_refusal *refusal) {
+  return pbcnf_refute(pbcnf_text_front(opb, opb_len), opb_len, bound, pbcnf_text_front(cnf, cnf_len), cnf_len,
+                      pbcnf_text_front(proof, proof_len), proof_len, pbcnf_text_front(lrat, lrat_len), lrat_len, refusal);
+}
+static inline uint8_t pbcnf_words_front(const pbcnf_refusal *refusal, uint8_t *said, size_t room, uint64_t *length) {
+  return pbcnf_words(refusal, pbcnf_bytes_front(said, room), room, length);
+}
+
+#define pbcnf_encode pbcnf_encode_front
+#define pbcnf_clauses pbcnf_clauses_front
+#define pbcnf_derive pbcnf_derive_front
+#define pbcnf_bounds pbcnf_bounds_front
+#define pbcnf_wcnf pbcnf_wcnf_front
+#define pbcnf_decode pbcnf_decode_front
+#define pbcnf_map pbcnf_map_front
+#define pbcnf_check pbcnf_check_front
+#define pbcnf_refute pbcnf_refute_front
+#define pbcnf_constraint pbcnf_constraint_front
+#define pbcnf_constraint_derive pbcnf_constraint_derive_front
+#define pbcnf_words pbcnf_words_front
+#endif
 #ifdef __cplusplus
 }
 #endif

@@ -5,7 +5,7 @@
 mod cadical;
 
 use cadical::Solver;
-use pbcnf::{Constraint, Error, Options, Relation};
+use pbcnf::{lit, Constraint, Error, Lit, Options, Relation};
 
 const COSTS: [i128; 8] = [3, 5, 4, 6, 2, 4, 7, 3];
 
@@ -16,17 +16,14 @@ struct Constraints {
 }
 
 impl Constraints {
-    fn add(&mut self, terms: &[(i128, i32)], relation: Relation, right: i128) -> Result<(), Error> {
-        let encoding = pbcnf::constraint(
-            Constraint {
-                terms,
-                relation,
-                right,
-            },
-            self.first,
-            &Options::default(),
-        )?;
-        self.solver.add(&encoding.integers);
+    fn add(&mut self, terms: &[(i128, Lit)], relation: Relation, right: i128) -> Result<(), Error> {
+        let constraint = Constraint {
+            terms,
+            relation,
+            right,
+        };
+        let encoding = pbcnf::constraint(constraint, self.first, &Options::new())?;
+        self.solver.add(encoding.integers());
         self.first = encoding.next_free();
         Ok(())
     }
@@ -34,7 +31,7 @@ impl Constraints {
 
 fn main() -> Result<(), Error> {
     let last = COSTS.len() as u32;
-    let guards: Vec<(i128, i32)> = COSTS.into_iter().zip(1..).collect();
+    let guards: Vec<(i128, Lit)> = COSTS.into_iter().zip((1..).map(lit)).collect();
     let mut constraints = Constraints {
         solver: Solver::new(),
         first: last + 1,

@@ -10,12 +10,12 @@ use pbcnf::{Error, Options};
 use std::process::ExitCode;
 
 fn solve(opb: &[u8]) -> Result<ExitCode, Error> {
-    let encoding = pbcnf::encode(opb, None, &Options::default())?;
+    let encoding = pbcnf::encode(opb, None, &Options::new())?;
     let mut solver = Solver::new();
-    solver.add(&encoding.integers);
-    match solver.model(encoding.original) {
+    solver.add(encoding.integers());
+    match solver.model(encoding.original()) {
         Some(model) => {
-            print!("{}", pbcnf::decode_literals(opb, None, &model)?);
+            print!("{}", pbcnf::decode_literals(opb, None, model)?.text());
             Ok(ExitCode::SUCCESS)
         }
         None => {
@@ -39,6 +39,6 @@ fn main() -> ExitCode {
     };
     solve(&opb).unwrap_or_else(|error| {
         eprintln!("{error}");
-        ExitCode::from(error.status)
+        ExitCode::from(error.status())
     })
 }

@@ -60,8 +60,12 @@ pub struct Side {
     pub right_high: u64,
 }
 
+/// Which structs and numbers are these, as PBCNF_ABI of the header.
+pub const ABI: u32 = 1;
+
 #[rustfmt::skip]
 extern "C" {
+    pub fn pbcnf_abi() -> u32;
     pub fn pbcnf_encode(opb: *const u8, opb_len: usize, options: *const Options, bound: *const Bound,
         cnf: *mut u8, room: usize, size: *mut Size, refusal: *mut Refusal) -> u8;
     pub fn pbcnf_clauses(opb: *const u8, opb_len: usize, options: *const Options, bound: *const Bound,

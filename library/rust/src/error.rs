@@ -1,62 +1,125 @@
 //! Why a call did not do what was asked.
 use crate::c;
+use crate::lit::Lit;
+use crate::numbers::{Denied, Expected, File, Limit, Unproved};
+use crate::options::Options;
 use std::fmt;
 
-/// Which text is meant.
-#[derive(Clone, Copy, PartialEq, Eq, Debug)]
-pub enum File {
-    Opb,
-    Cnf,
-    Proof,
-    Model,
-    Lrat,
-}
-
 /// A place in a text: lines and columns count from 1, columns in bytes.
-#[derive(Clone, Copy, PartialEq, Eq, Debug)]
+#[derive(Clone, Copy, PartialEq, Eq, Hash, PartialOrd, Ord, Debug)]
 pub struct Place {
+    /// The line.
     pub line: u64,
+    /// The column.
     pub column: u64,
 }
 
+/// Which number of those that were passed is out of its range.
+#[derive(Clone, Copy, PartialEq, Eq, Hash, Debug)]
+#[non_exhaustive]
+pub enum Mistake {
+    /// The budget is not from 1 to [`Options::MOST_BUDGET`].
+    Budget(u32),
+    /// The first fresh variable is not from 1 to 2^31.
+    First(u32),
+    /// The literal of this term, counted from 0, is not of a variable below the first fresh one.
+    Literal {
+        /// Which term.
+        term: usize,
+        /// Its literal.
+        literal: Lit,
+        /// The first fresh variable.
+        first: u32,
+    },
+}
+
+impl fmt::Display for Mistake {
+    fn fmt(&self, f: &mut fmt::Formatter<'_>) -> fmt::Result {
+        match self {
+            Mistake::Budget(budget) => write!(
+                f,
+                "the budget is {budget}, and not from 1 to {}",
+                Options::MOST_BUDGET
+            ),
+            Mistake::First(first) => write!(
+                f,
+                "the first fresh variable is {first}, and not from 1 to {}",
+                1u32 << 31
+            ),
+            Mistake::Literal {
+                term,
+                literal,
+                first,
+            } => write!(
+                f,
+                "the literal of term {} is {literal}, and not of a variable from 1 to {}",
+                term + 1,
+                first - 1
+            ),
+        }
+    }
+}
+
 /// What kept a call from doing what was asked, as the program's exit statuses tell it apart.
-#[derive(Clone, Copy, PartialEq, Eq, Debug)]
+#[derive(Clone, Copy, PartialEq, Eq, Hash, Debug)]
+#[non_exhaustive]
 pub enum Kind {
     /// A text leaves its grammar, first at this place.
     Refused {
+        /// Which text.
         file: File,
+        /// Where.
         place: Place,
+        /// What its grammar allows there.
+        expected: Expected,
     },
-    /// A budget, a literal or the first fresh variable is out of its range.
-    Usage,
+    /// What was passed chooses nothing.
+    Usage(Mistake),
     /// A text, or what is to be made of it, passes a limit.
     Limit {
+        /// Which.
+        limit: Limit,
+        /// The text that is to blame, if one is.
         file: Option<File>,
+        /// And where.
         place: Option<Place>,
     },
+    /// The library was given no memory.
     NoMemory,
-    /// The step of the derivation on this line is not allowed.
+    /// A step of the derivation is not allowed.
     Rejected {
+        /// Its line.
         line: u64,
+        /// Why.
+        why: Denied,
+        /// The variable or id that this is said of, else 0.
+        number: u64,
     },
-    /// This line of the refutation is none, or it ends before it without an empty clause.
+    /// A line of the refutation is none, or it ends before that line without an empty clause.
     NotRefuted {
+        /// The line.
         line: u64,
+        /// Why.
+        why: Unproved,
+        /// The id that this is said of, else 0.
+        number: u64,
     },
-    /// The values violate a statement, counted from 1, as the first. A bound on the objective counts as the last.
+    /// The values violate a statement.
     NotASolution {
+        /// The first that they violate, counted from 1. A bound on the objective counts as the last.
         statement: u64,
     },
     /// The solver does not say that there is a model.
     NoModel,
+    /// The library tells a cause that this crate does not know: it is of another version.
+    Unknown,
 }
 
 /// Why a call did not do what was asked. It is shown as the program would print it.
-#[derive(Clone, PartialEq, Eq, Debug)]
+#[derive(Clone, PartialEq, Eq, Hash, Debug)]
 pub struct Error {
-    pub kind: Kind,
-    /// The exit status of the program in the same case.
-    pub status: u8,
+    kind: Kind,
+    status: u8,
     words: String,
 }
 
@@ -69,63 +132,69 @@ impl fmt::Display for Error {
 impl std::error::Error for Error {}
 
 impl Error {
-    /// What the grammar allows where a text leaves it, or the limit that is passed; else empty.
-    pub fn detail(&self) -> &str {
-        match self.kind {
-            Kind::Refused { .. } => self.behind(": expected "),
-            Kind::Limit { .. } => self.behind(": limit "),
-            _ => "",
-        }
+    /// What it is.
+    pub fn kind(&self) -> Kind {
+        self.kind
     }
 
-    fn behind(&self, mark: &str) -> &str {
-        self.words.split_once(mark).map_or("", |(_, rest)| rest)
+    /// The exit status of the program in the same case.
+    pub fn status(&self) -> u8 {
+        self.status
     }
 
-    /// The error that a refusal tells.
-    pub(crate) fn of(refusal: &c::Refusal) -> Error {
+    /// The error that a refusal tells. Which mistake a usage is, the caller looks for.
+    pub(crate) fn of(refusal: &c::Refusal, mistake: impl FnOnce() -> Option<Mistake>) -> Error {
+        let told = match refusal.status {
+            2 => mistake().map(Kind::Usage),
+            _ => kind_of(refusal),
+        };
+        let kind = told.unwrap_or(Kind::Unknown);
+        let words = match kind {
+            Kind::Usage(mistake) => format!("pbcnf: usage: {mistake}"),
+            _ => words_of(refusal),
+        };
         Error {
-            kind: kind_of(refusal),
+            kind,
             status: refusal.status as u8,
-            words: words_of(refusal),
+            words,
         }
     }
 }
 
-fn kind_of(refusal: &c::Refusal) -> Kind {
+/// What a refusal tells, if these are numbers of the header.
+fn kind_of(refusal: &c::Refusal) -> Option<Kind> {
+    let (line, number) = (refusal.line, refusal.number);
     let place = Place {
-        line: refusal.line,
+        line,
         column: refusal.column,
     };
-    match refusal.status {
+    let kind = match refusal.status {
         1 => Kind::Refused {
-            file: file_of(refusal.file).unwrap_or(File::Opb),
+            file: File::of(refusal.file)?,
             place,
+            expected: Expected::of(refusal.expected)?,
         },
         3 => Kind::Limit {
-            file: file_of(refusal.file),
-            place: (place.line > 0).then_some(place),
+            limit: Limit::of(refusal.limit)?,
+            file: File::of(refusal.file),
+            place: (line > 0).then_some(place),
         },
         6 => Kind::NoMemory,
-        7 => Kind::Rejected { line: refusal.line },
-        8 => Kind::NotASolution {
-            statement: refusal.number,
+        7 => Kind::Rejected {
+            line,
+            why: Denied::of(refusal.denied)?,
+            number,
         },
+        8 => Kind::NotASolution { statement: number },
         9 => Kind::NoModel,
-        10 => Kind::NotRefuted { line: refusal.line },
-        _ => Kind::Usage,
-    }
-}
-
-fn file_of(number: u32) -> Option<File> {
-    match number {
-        1 => Some(File::Opb),
-        2 => Some(File::Cnf),
-        3 => Some(File::Proof),
-        4 => Some(File::Model),
-        5 => Some(File::Lrat),
-        _ => None,
-    }
+        10 => Kind::NotRefuted {
+            line,
+            why: Unproved::of(refusal.unproved)?,
+            number,
+        },
+        _ => return None,
+    };
+    Some(kind)
 }
 
 fn words_of(refusal: &c::Refusal) -> String {

@@ -2,72 +2,127 @@
 use crate::c;
 
 /// The clauses of at most one literal.
-#[derive(Clone, Copy, PartialEq, Eq, Debug, Default)]
+#[derive(Clone, Copy, PartialEq, Eq, Hash, PartialOrd, Ord, Debug, Default)]
+#[non_exhaustive]
 pub enum Amo {
     /// By the number of the literals.
     #[default]
     Auto,
+    /// A clause for each pair.
     Pairwise,
+    /// A ladder of fresh variables.
     Ladder,
+    /// A grid of rows and columns.
     Product,
 }
 
 /// The clauses of at most so many literals.
-#[derive(Clone, Copy, PartialEq, Eq, Debug, Default)]
+#[derive(Clone, Copy, PartialEq, Eq, Hash, PartialOrd, Ord, Debug, Default)]
+#[non_exhaustive]
 pub enum Card {
     /// By the bound.
     #[default]
     Auto,
+    /// A sequential counter.
     Counter,
+    /// A totalizer.
     Totalizer,
 }
 
 /// The clauses of weighted sums.
-#[derive(Clone, Copy, PartialEq, Eq, Debug, Default)]
+#[derive(Clone, Copy, PartialEq, Eq, Hash, PartialOrd, Ord, Debug, Default)]
+#[non_exhaustive]
 pub enum General {
+    /// A decision diagram.
     #[default]
     Diagram,
+    /// A generalized totalizer.
     Tree,
+    /// A network of adders, for which unit propagation is not promised.
     Adder,
 }
 
 /// How equalities are encoded.
-#[derive(Clone, Copy, PartialEq, Eq, Debug, Default)]
+#[derive(Clone, Copy, PartialEq, Eq, Hash, PartialOrd, Ord, Debug, Default)]
+#[non_exhaustive]
 pub enum Equal {
     /// Half by half.
     #[default]
     Split,
-    /// As one, where a number of the literals is asked for.
+    /// As one, if a number of the literals is asked for.
     Joint,
 }
 
 /// What is chosen of an encoding.
-#[derive(Clone, Copy, PartialEq, Eq, Debug)]
+///
+/// ```
+/// use pbcnf::{General, Options};
+/// let options = Options::new().general(General::Tree).budget(1000);
+/// assert_ne!(options, Options::default());
+/// ```
+#[derive(Clone, Copy, PartialEq, Eq, Hash, Debug)]
 pub struct Options {
-    pub amo: Amo,
-    pub card: Card,
-    pub general: General,
-    pub equal: Equal,
-    /// The most fresh variables of a constraint, past which it goes to adders: 1 to 10,000,000.
-    pub budget: u32,
-    /// Whether a table of bounds on the objective stands behind all constraints; `bounds` gives its rows.
-    pub table: bool,
+    amo: Amo,
+    card: Card,
+    general: General,
+    equal: Equal,
+    table: bool,
+    pub(crate) budget: u32,
 }
 
 impl Default for Options {
     fn default() -> Self {
-        Options {
-            amo: Amo::default(),
-            card: Card::default(),
-            general: General::default(),
-            equal: Equal::default(),
-            budget: 50_000,
-            table: false,
-        }
+        Options::new()
     }
 }
 
 impl Options {
+    /// The most fresh variables that a constraint may be given.
+    pub const MOST_BUDGET: u32 = 10_000_000;
+
+    /// What is taken if nothing is chosen.
+    pub const fn new() -> Self {
+        Options {
+            amo: Amo::Auto,
+            card: Card::Auto,
+            general: General::Diagram,
+            equal: Equal::Split,
+            table: false,
+            budget: 50_000,
+        }
+    }
+
+    /// Chooses the clauses of at most one literal.
+    pub const fn amo(self, amo: Amo) -> Self {
+        Options { amo, ..self }
+    }
+
+    /// Chooses the clauses of at most so many literals.
+    pub const fn card(self, card: Card) -> Self {
+        Options { card, ..self }
+    }
+
+    /// Chooses the clauses of weighted sums.
+    pub const fn general(self, general: General) -> Self {
+        Options { general, ..self }
+    }
+
+    /// Chooses how equalities are encoded.
+    pub const fn equal(self, equal: Equal) -> Self {
+        Options { equal, ..self }
+    }
+
+    /// Chooses the most fresh variables of a constraint, past which it goes to adders: 1 to [`Options::MOST_BUDGET`], and 50,000
+    /// if none is chosen.
+    pub const fn budget(self, budget: u32) -> Self {
+        Options { budget, ..self }
+    }
+
+    /// Chooses whether a table of bounds on the objective stands behind all constraints; [`bounds`](crate::bounds) gives its rows.
+    pub const fn table(self, table: bool) -> Self {
+        Options { table, ..self }
+    }
+
     pub(crate) fn numbers(&self) -> c::Options {
         c::Options {
             amo: self.amo as u32,

@@ -1,4 +1,5 @@
 //! CaDiCaL by its C interface, ccadical.h.
+use pbcnf::{lit, Lit};
 use std::ffi::c_int;
 
 #[repr(C)]
@@ -33,20 +34,17 @@ impl Solver {
     }
 
     /// The true literals of a model over the variables 1 to `last`, if there is one.
-    pub fn model(&mut self, last: u32) -> Option<Vec<i32>> {
+    pub fn model(&mut self, last: u32) -> Option<Vec<Lit>> {
         // SAFETY: as above.
         if unsafe { ccadical_solve(self.0) } != 10 {
             return None;
         }
-        // SAFETY: as above, and there is a model.
-        let sign = |var: i32| {
-            if unsafe { ccadical_val(self.0, var) } > 0 {
-                var
-            } else {
-                -var
-            }
+        let signed = |var: i32| {
+            // SAFETY: as above, and there is a model.
+            let is_true = unsafe { ccadical_val(self.0, var) } > 0;
+            lit(if is_true { var } else { -var })
         };
-        Some((1..=last as i32).map(sign).collect())
+        Some((1..=last as i32).map(signed).collect())
     }
 }
 
