@@ -1,7 +1,13 @@
 """Problems of the kinds that planners, verifiers and timetabling tools hand to an encoder, by size.
 
-Each is the same on every machine: what is drawn comes from a generator of its own, by a fixed seed.
+Each is the same on every machine: what is drawn comes from a generator of its own, by a fixed seed. So the figures of
+docs/PERFORMANCE.md can be had again anywhere, without a file from elsewhere.
+
+usage: python3 bench/instances.py SIZE FOLDER     writes the problems of a size (small, medium or large) as OPB files
 """
+
+import os
+import sys
 
 
 class Draws:
@@ -146,6 +152,59 @@ def mixed(rows, seed):
     return problem
 
 
+def sacks(items, count, weight, seed):
+    """Several knapsacks over the same items, of which the profit that is left behind is the objective."""
+    draws, problem = Draws(seed), Problem()
+    for _ in range(count):
+        weights = [draws.between(1, weight) for _ in range(items)]
+        problem.add([(weights[i], i + 1) for i in range(items)], "<=", sum(weights) // 2)
+    problem.minimise([(draws.between(1, weight), -(i + 1)) for i in range(items)])
+    return problem
+
+
+def vertex_cover(vertices, edges, seed):
+    """Each edge has an end among the vertices that are taken, which are to be few."""
+    draws, problem, drawn = Draws(seed), Problem(), {}
+    while len(drawn) < edges:
+        drawn[tuple(sorted(draws.sample(range(1, vertices + 1), 2)))] = None
+    for one, other in drawn:
+        problem.add([(1, one), (1, other)], ">=", 1)
+    problem.minimise([(1, vertex) for vertex in range(1, vertices + 1)])
+    return problem
+
+
+def schedule(jobs, seed):
+    """One machine: each job starts once, no two run at once, and what they are late costs."""
+    draws, problem = Draws(seed), Problem()
+    length = [draws.between(1, 4) for _ in range(jobs)]
+    slots, late = sum(length), []
+    start = lambda job, slot: job * slots + slot + 1
+    for job in range(jobs):
+        problem.add([(1, start(job, slot)) for slot in range(slots - length[job] + 1)], "=", 1)
+        cost, due = draws.between(1, 9), draws.between(length[job], slots)
+        late += [(cost * (end - due), start(job, end - length[job])) for end in range(due + 1, slots + 1)]
+    for slot in range(slots):
+        problem.add([(1, start(job, begin)) for job in range(jobs)
+                     for begin in range(max(0, slot - length[job] + 1), min(slot, slots - length[job]) + 1)], "<=", 1)
+    problem.minimise(late)
+    return problem
+
+
+def at_most(count, bound):
+    """At most so many of some variables."""
+    problem = Problem()
+    problem.add([(1, i + 1) for i in range(count)], "<=", bound)
+    return problem
+
+
+def weights(count, greatest, seed):
+    """A sum of drawn weights up to half of what they are together."""
+    draws, problem = Draws(seed), Problem()
+    drawn = [draws.between(1, greatest) for _ in range(count)]
+    problem.add([(weight, i + 1) for i, weight in enumerate(drawn)], "<=", sum(drawn) // 2)
+    return problem
+
+
 def clauses(rows, seed):
     """Clauses alone."""
     draws, problem = Draws(seed), Problem()
@@ -187,3 +246,74 @@ SIZES = {
         "clauses 400k": lambda: clauses(400000, 3),
     },
 }
+
+# Problems of one kind that become larger, by kinds and sizes.
+GROWING = {
+    "clauses": {
+        "6k": lambda: clauses(6250, 4),
+        "25k": lambda: clauses(25000, 4),
+        "100k": lambda: clauses(100000, 4),
+        "400k": lambda: clauses(400000, 4),
+    },
+    "mixed": {
+        "3k": lambda: mixed(3125, 4),
+        "12k": lambda: mixed(12500, 4),
+        "50k": lambda: mixed(50000, 4),
+        "200k": lambda: mixed(200000, 4),
+    },
+    "timetables": {
+        "50": lambda: timetable(50, 40, 5, 15, 4),
+        "100": lambda: timetable(100, 40, 10, 30, 4),
+        "200": lambda: timetable(200, 40, 10, 60, 4),
+        "400": lambda: timetable(400, 40, 15, 120, 4),
+    },
+    "coverings": {
+        "500": lambda: covering(310, 500, 20, 4),
+        "2k": lambda: covering(1250, 2000, 20, 4),
+        "8k": lambda: covering(5000, 8000, 20, 4),
+        "32k": lambda: covering(20000, 32000, 20, 4),
+    },
+}
+
+
+class Family:
+    """One constraint of n literals that a family encodes, by the words of `encode` that ask for it, and the lengths that are measured."""
+
+    def __init__(self, name, says, make, options, counts):
+        self.name, self.says, self.make, self.options, self.counts = name, says, make, options, counts
+
+
+FAMILIES = [
+    Family("ladder", "at most 1 of n", lambda n: at_most(n, 1), ["--amo", "ladder"], (250, 500, 1000, 2000)),
+    Family("product", "at most 1 of n", lambda n: at_most(n, 1), ["--amo", "product"], (250, 500, 1000, 2000)),
+    Family("counter", "at most 5 of n", lambda n: at_most(n, 5), ["--card", "counter"], (250, 500, 1000, 2000)),
+    Family("totalizer", "at most n/4 of n", lambda n: at_most(n, n // 4), ["--card", "totalizer"], (100, 200, 400, 800)),
+    Family("diagram", "n weights up to 9", lambda n: weights(n, 9, 5), ["--general", "diagram"], (25, 50, 100, 200)),
+    Family("tree", "n weights up to 9", lambda n: weights(n, 9, 5), ["--general", "tree"], (25, 50, 100, 200)),
+    Family("adder", "n weights up to 1,000", lambda n: weights(n, 1000, 6), ["--general", "adder"], (50, 100, 200, 400)),
+]
+
+# Questions for a solver: a problem, and whether it has a solution whose objective is at most a bound. The greater bound is its optimum.
+SOLVED = {
+    "pigeons 8": (lambda: pigeons(8), [(None, "no")]),
+    "knapsacks 60": (lambda: knapsacks(60, 5, 1000, 2), [(None, "yes")]),
+    "planning 24": (lambda: planning(24, 24, 3, 2), [(None, "yes")]),
+    "sacks 25": (lambda: sacks(25, 4, 99, 7), [(293, "yes"), (292, "no")]),
+    "covering 40": (lambda: covering(40, 40, 6, 1), [(117, "yes"), (116, "no")]),
+    "covering 50": (lambda: covering(50, 60, 6, 2), [(185, "yes"), (184, "no")]),
+    "timetable 40": (lambda: timetable(40, 4, 10, 40, 4), [(16, "yes"), (15, "no")]),
+    "schedule 13": (lambda: schedule(13, 5), [(1, "yes"), (0, "no")]),
+    "vertex cover 50": (lambda: vertex_cover(50, 110, 7), [(27, "yes"), (26, "no")]),
+    "vertex cover 60": (lambda: vertex_cover(60, 130, 8), [(33, "yes"), (32, "no")]),
+}
+
+
+def main(size, folder):
+    os.makedirs(folder, exist_ok=True)
+    for name, make in SIZES[size].items():
+        with open(os.path.join(folder, name.replace(" ", "_") + ".opb"), "w") as file:
+            file.write(make().text())
+
+
+if __name__ == "__main__":
+    main(*sys.argv[1:])

@@ -3,11 +3,30 @@
 import math
 
 WIDTH, HEIGHT, LEFT, RIGHT, TOP, BOTTOM = 640, 420, 70, 150, 40, 50
-COLOURS = ("#1f5fa8", "#c0392b", "#2e8b57", "#8e6bb0")
+COLOURS = ("#1f5fa8", "#c0392b", "#2e8b57", "#8e6bb0", "#d98a1f", "#2aa3a3", "#7a7a7a", "#b0487f")
 
 
 def escape(text):
     return text.replace("&", "&amp;").replace("<", "&lt;").replace(">", "&gt;")
+
+
+def slope(points):
+    """The exponent of the power of x that y goes with, by least squares over the logarithms, or None of one place alone."""
+    xs, ys = [math.log(point[0]) for point in points], [math.log(point[1]) for point in points]
+    if not xs or max(xs) == min(xs):
+        return None
+    x, y = sum(xs) / len(xs), sum(ys) / len(ys)
+    return sum((a - x) * (b - y) for a, b in zip(xs, ys)) / sum((a - x) ** 2 for a in xs)
+
+
+def with_slopes(series):
+    """The series by names that have their slopes, without those of no point."""
+    named = []
+    for name, points in series:
+        of_one = slope(points)
+        if points:
+            named.append((name if of_one is None else "%s: %.2f" % (name, of_one), points))
+    return named
 
 
 class Axis:
