@@ -17,6 +17,8 @@ passed() {
 failed() {
     printf 'failed\n' >>"$state/tally"
     printf 'FAILED %s: %s\n' "$subject" "$*" >>"$state/report"
+    # Of a program that is wrong on purpose the first failure is enough.
+    [ -z "${until_failed-}" ] || exit 1
 }
 
 # Says why a check is not made.
@@ -39,6 +41,22 @@ needs() {
             exit 0
         fi
     done
+}
+
+# Sets $compiler to the name of a C compiler, or to nothing.
+find_compiler() {
+    for compiler in cc gcc clang ''; do
+        if [ -z "$compiler" ] || has $compiler; then return; fi
+    done
+}
+
+# Ends the case where there is none.
+needs_compiler() {
+    find_compiler
+    if [ -z "$compiler" ]; then
+        skip 'there is no C compiler'
+        exit 0
+    fi
 }
 
 # The program.
@@ -126,19 +144,42 @@ absent() {
     done
 }
 
-# fault STATUS LINE WORD..: the program ends with this status, says nothing, and tells this line.
+# fault STATUS LINE WORD..: the program ends with this status, says nothing, and tells just this line.
 fault() {
-    local status=$1 line=$2
+    local status=$1 line=$2 got
     shift 2
-    expect "$status" pb "$@"
-    says
-    tells "pbcnf: $line"
+    last=$(shown pb "$@")
+    pb "$@" >"$said" 2>"$told"
+    got=$?
+    text "$state/due" "pbcnf: $line"
+    if [ "$got" -eq "$status" ] && [ ! -s "$said" ] && cmp -s -- "$state/due" "$told"; then
+        passed
+    else
+        failed "$last: wanted the status $status and $line, got $got; it told $(bytes_of "$told") and said $(bytes_of "$said")"
+    fi
 }
 
-# fine WORD..: the program ends well and tells nothing.
+# well CMD..: the command ends with 0, says something, and tells nothing.
+well() {
+    local got
+    last=$(shown "$@")
+    "$@" >"$said" 2>"$told"
+    got=$?
+    if [ "$got" -eq 0 ] && [ -s "$said" ] && [ ! -s "$told" ]; then
+        passed
+    else
+        failed "$last: wanted the status 0 and words, got $got; it told $(bytes_of "$told") and said $(bytes_of "$said")"
+    fi
+}
+
+# fine WORD..: so does the program, but that `map` says nothing where there is no free name.
 fine() {
-    expect 0 pb "$@"
-    tells
+    if [ "$1" = map ]; then
+        expect 0 pb "$@"
+        tells
+    else
+        well pb "$@"
+    fi
 }
 
 # installs PREFIX: has ./install put program and library below PREFIX. False, and skipped, where neither of these sources is there.
@@ -205,4 +246,29 @@ link_tools_but() {
 # told_of WORD: the last command has a line with this word on standard error.
 told_of() {
     if grep -q -- "$1" "$told"; then passed; else failed "$last: wanted a line with $1, got $(bytes_of "$told")"; fi
+}
+
+# run_tests FILE [CLASS ..]: each test of this file in Python, or of these classes in it, is a check; one that is skipped has its reason.
+run_tests() {
+    local line
+    last=${1##*/}
+    python3 "$1" -v "${@:2}" >"$said" 2>"$told" || failed "$last: it ended with $?: $(tail -n 12 "$told" | tr '\n' '|')"
+    while IFS= read -r line; do
+        case $line in
+        *' ... ok' | ok) passed ;;
+        *' ... skipped '*) skip "$line" ;;
+        *' ... FAIL' | *' ... ERROR') failed "$last: $line" ;;
+        esac
+    done <"$told"
+}
+
+# completed WORD..: keeps what the completion for bash offers for the last of these words, one a line.
+completed() {
+    compopt() { :; }
+    . "$top/docs/pbcnf.bash"
+    COMP_WORDS=("$@")
+    COMP_CWORD=$(($# - 1))
+    _pbcnf 2>/dev/null
+    printf '%s\n' "${COMPREPLY[@]}" >"$said"
+    last=$(shown "$@")
 }

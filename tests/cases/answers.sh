@@ -26,6 +26,14 @@ says 'variables 7 original 3 fresh 4 clauses 16' "$kinds 0 tree 0 adder 1"
 fine encode sum.opb o.cnf --general tree
 says 'variables 11 original 3 fresh 8 clauses 11' "$kinds 0 tree 1 adder 0"
 
+# By the bound: up to 8 a counter, above it a totalizer.
+for bound in 8 9; do
+    awk -v bound=$bound 'BEGIN { for (i = 1; i <= 12; i++) printf "-1 x%d ", i; print ">= -" bound " ;" }' >bound.opb
+    fine encode bound.opb o.cnf
+    grep -o 'counter [01] totalizer [01]' "$said" >families
+    holds families "counter $((bound == 8)) totalizer $((bound == 9))"
+done
+
 # Free names and products.
 text names.opb '+1 rain +1 x2 +1 ~sun >= 2 ;' '+1 x1 rain >= 0 ;'
 fine map names.opb
@@ -60,3 +68,12 @@ clauses_alone 11 1
 fine bench 1 0 o.cnf
 clauses_alone 11 1
 holds o.cnf 'p cnf 11 1' '3 -7 0'
+
+# The environment changes nothing.
+fine encode sum.opb o.cnf o.proof
+cp "$said" summary
+expect 0 env -u HOME -u PATH -u LC_ALL "$pbcnf" encode sum.opb n.cnf n.proof
+tells
+same summary "$said"
+same o.cnf n.cnf
+same o.proof n.proof

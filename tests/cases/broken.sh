@@ -17,12 +17,17 @@ holds_up() {
     *) return 1 ;;
     esac
     take err
-    if [ $status -eq 0 ]; then [ -z "$taken" ]; else [[ $taken == 'pbcnf: '*$'\n' && $taken != *$'\n'?* && ! -s out ]]; fi
+    if [ $status -eq 0 ]; then
+        [ -z "$taken" ] && { [ "$2" = map ] || [ -s out ]; }
+    else
+        refused=$((refused + 1))
+        [[ $taken == 'pbcnf: '*$'\n' && $taken != *$'\n'?* && ! -s out ]]
+    fi
 }
 
 # breaks FILE 'STATUS ..' WORD..: runs the command on the file's text as it is broken.
 breaks() {
-    local i byte whole bad=
+    local i byte whole bad= refused=0
     take "$1"
     whole=$taken
     last=$(shown "${@:3}")
@@ -36,6 +41,8 @@ breaks() {
         printf '%s\0%s' "${whole:0:i}" "${whole:i+1}" >text
         holds_up "${@:2}" || bad="${whole:0:i}, a byte 0, ${whole:i+1}"
     done
+    # Of each text some parts cannot stand alone.
+    [ $refused -gt 0 ] || bad=$whole
     if [ -z "$bad" ]; then passed; else failed "$last: no answer that is due of the text $(shown "$bad")"; fi
 }
 

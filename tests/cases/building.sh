@@ -109,6 +109,13 @@ proved pbcnf_c
 told_of '^build: the program: there is none in release/'
 expect 0 build
 noted
+
+# A source that only has another time makes nothing anew; the program's stamp is newer then, so that the launcher takes it.
+touch "$copy/crates/pb_low/src/lib.rt"
+expect 0 test "$program.stamp" -ot "$copy/crates/pb_low/src/lib.rt"
+expect 0 build --program
+noted
+expect 0 test "$program.stamp" -nt "$copy/crates/pb_low/src/lib.rt"
 source_is pb_right '// pb_right, otherwise'
 expect 0 build
 proved pb_right pbcnf

@@ -5,7 +5,7 @@ needs python3 cadical
 export PYTHONPATH=$top/library/python PYTHONDONTWRITEBYTECODE=1 PBCNF=$pbcnf
 core=$top/examples/core
 
-expect 0 python3 "$top/library/python/tests/test_core.py"
+run_tests "$top/library/python/tests/test_core.py"
 
 mkdir room
 export TMPDIR=$PWD/room
@@ -26,7 +26,8 @@ same again "$said"
 
 text refused.opb 'x1 >= 1 ;'
 expect 1 "$core" refused.opb
-tells 'pbcnf: OPB 1:1: expected min:, a statement or the end'
+tells 'pbcnf: OPB 1:1: expected min:, a statement or the end' \
+    "pbcnf-core: refused.opb: 'x1' stands there: a term without its coefficient; pbcnf-tidy makes '+1 x1' of 'x1'"
 expect 2 "$core"
 expect 2 "$core" "$examples/pigeons.opb" --at-most=3
 expect 0 "$core" --help

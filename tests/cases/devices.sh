@@ -63,6 +63,12 @@ is_front() {
     [ "$size" -le 4096 ] && head -c "$size" large.cnf | cmp -s - cut.cnf
 }
 expect 0 is_front
+# So it is where all would go out at once, and just the first part is taken.
+fine bench 100 1 large.cnf
+expect 0 test "$(stat -c %s large.cnf)" -lt 65536
+expect 5 short_files bench 100 1 cut.cnf
+tells 'pbcnf: write fault'
+expect 0 is_front
 few_numbers() {
     (ulimit -n 4 && "$pbcnf" "$@")
 }

@@ -8,24 +8,17 @@ export PIP_NO_INDEX=1 PIP_DISABLE_PIP_VERSION_CHECK=1 PYTHONDONTWRITEBYTECODE=1
 # The tools that a block of commands names and that are not there.
 missing() {
     local tool any=
-    for tool in $solvers drat-trim python3 cc; do
+    for tool in $solvers drat-trim parallel python3 cc; do
         has $tool && continue
         grep -Eq "(^|[|=] ?|for )$tool( |\$)" "$1" && printf '%s ' $tool
     done
-    if grep -Eq '(examples/|pbcnf-)(cheapest|core)' "$1" && ! has cadical; then printf 'cadical '; fi
-    if grep -Eq '(examples/|pbcnf-)minimize' "$1"; then
-        cadical --help 2>"$state/cadical" | grep -q -e --lrat || printf 'cadical that writes LRAT '
-    fi
-    if grep -Eq '(examples/|pbcnf-)(minimize|core|tidy|veripb)' "$1" && ! has python3; then printf 'python3 '; fi
+    if grep -Eq '(examples/|pbcnf-)(cheapest|minimize|core|[a-z]*\.py)' "$1" && ! has cadical; then printf 'cadical '; fi
+    if grep -Eq '(examples/|pbcnf-)(cheapest|minimize|core|hints|solve|tidy|veripb)' "$1" && ! has python3; then printf 'python3 '; fi
     if grep -Eq '(examples/|pbcnf-)solve' "$1"; then
         for tool in $solvers; do
             has $tool && any=$tool
         done
         [ -n "$any" ] || printf 'solver '
-    fi
-    if grep -Eq '(examples/|pbcnf-)(core|tidy)' "$1"; then
-        has python3 || printf 'python3 '
-        has cadical || ! grep -Eq '(examples/|pbcnf-)core' "$1" || printf 'cadical '
     fi
     # The programs of docs/LIBRARY.md are named so.
     if grep -Eq '/page/local/|(^|[ /])first[./]' "$1"; then

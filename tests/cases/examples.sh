@@ -1,11 +1,11 @@
-# The scripts of examples/: what they do with words, names, files and tools that are not as they should be, and that nothing is
+# The commands of examples/: what they do with words, names, files and tools that are not as they should be, and that nothing is
 # lost by it; and what they answer.
 . "$top/tests/lib.sh"
-needs cadical
+needs python3
 
-export PBCNF=$pbcnf
+export PBCNF=$pbcnf PYTHONDONTWRITEBYTECODE=1
 solve=$examples/solve
-cheapest=$examples/cheapest
+minimize=$examples/minimize
 opb=$examples/guards.opb
 
 # The lines that begin so of the last command's output.
@@ -20,55 +20,52 @@ mentions() {
 }
 
 # A word behind the OPB file that is no option is refused before anything is done.
-for script in solve cheapest; do
+for command in solve minimize; do
     for words in precious.txt '--general tree precious.txt' 'precious.txt --table' '-- precious.txt' -x '--at-most=20 7' \
         '--amo auto --card totalizer precious.txt'; do
         echo precious >precious.txt
-        expect 2 "$examples/$script" "$opb" $words
+        expect 2 "$examples/$command" "$opb" $words
         says
-        mentions "$script: "
+        mentions 'usage: pbcnf-'
         holds precious.txt precious
     done
-    expect 2 "$examples/$script"
-    tells "$script: usage: $script OPB [option of encode ..]"
+    expect 2 "$examples/$command"
+    mentions 'the following arguments are required: OPB'
 done
-expect 2 "$cheapest" "$opb" --at-most=20
-tells 'cheapest: --at-most=20: bounds are chosen here'
-expect 2 "$cheapest" "$opb" --table
+expect 2 "$minimize" "$opb" --at-most=20
+mentions 'unrecognized arguments: --at-most=20'
+expect 2 "$minimize" "$opb" --table
 says
 
-# Files that cannot be read, and no folder for temporary ones.
+# Files that cannot be read.
 mkdir folder
-for script in solve cheapest; do
-    expect 4 "$examples/$script" nowhere.opb
+for command in solve minimize; do
+    expect 4 "$examples/$command" nowhere.opb
     says
-    tells "$script: nowhere.opb: No such file or directory"
-    expect 4 "$examples/$script" folder
-    tells "$script: folder: Is a directory"
-    without_folder() {
-        TMPDIR=$PWD/nowhere "$examples/$script" "$opb"
-    }
-    expect 73 without_folder
-    says
-    tells "$script: no folder for temporary files could be made"
+    tells "pbcnf-$command: nowhere.opb: No such file or directory"
+    expect 4 "$examples/$command" folder
+    tells "pbcnf-$command: folder: Is a directory"
 done
 
 # No solver on the path.
 mkdir tools
-for tool in sh dirname grep sed awk cat mktemp rm mv; do ln -s "$(command -v $tool)" tools/$tool; done
+for tool in sh dirname readlink; do ln -s "$(command -v $tool)" tools/$tool; done
+ln -s "$(python3 -c 'import sys; print(sys.executable)')" tools/python3
 bare() {
     PATH=$PWD/tools "$@"
 }
-expect 69 bare "$solve" "$opb"
-says
-expect 69 bare "$cheapest" "$opb"
-says
-tells 'cheapest: cadical is not on the path'
+for command in solve minimize; do
+    expect 69 bare "$examples/$command" "$opb"
+    says
+    tells "pbcnf-$command: no SAT solver is on the path; install one of cadical kissat cryptominisat5 clasp picosat glucose minisat"
+done
+needs cadical
 
 # A folder in which nothing may be written is no hindrance; nor are blanks in names.
 mkdir 'a folder'
 cp "$opb" 'a folder/the guards.opb'
 cp -R "$examples" 'a folder/the examples'
+cp -R "$top/library" 'a folder/library'
 chmod a-w 'a folder'
 (cd 'a folder' && TMPDIR=$work "./the examples/solve" 'the guards.opb' --at-most=20) >"$said" 2>"$told"
 lines_of '[os]' 'o 20' 's SATISFIABLE'
@@ -81,19 +78,25 @@ by_stdin() {
 expect 0 by_stdin "$solve" "$opb" --at-most=20
 lines_of '[os]' 'o 20' 's SATISFIABLE'
 
-# least VALUE OPB [OPTION ..]: a cheapest solution costs this, and nothing less is refuted.
+# least VALUE OPB [OPTION ..]: a best solution costs this, and that one costs less is refuted.
+is_least() {
+    grep '^[os] ' "$said" | tail -n 2 >"$state/lines"
+    holds "$state/lines" "o $1" 's OPTIMUM FOUND'
+}
 least() {
     local value=$1
     shift
-    expect 0 "$cheapest" "$@"
-    lines_of '[osr]' "o $value" 's SATISFIABLE' refuted
+    expect 0 "$minimize" "$@"
+    is_least "$value"
 }
 least 20 "$opb"
 least 20 'a folder/the guards.opb' --general tree
 least 20 "$opb" --general adder --budget 1
-mentions 'the table of bounds is too large'
-expect 0 by_stdin "$cheapest" "$opb"
-lines_of '[osr]' 'o 20' 's SATISFIABLE' refuted
+expect 0 by_stdin "$minimize" "$opb"
+is_least 20
+# By its older name.
+expect 0 "$examples/cheapest" "$opb"
+is_least 20
 for option in '' '--budget 1'; do
     least 12 "$top/tests/data/garden.opb" $option
     least 5000000000000000000000000 "$top/tests/data/covering.opb" $option
@@ -118,82 +121,120 @@ for name in garden covering upgrade; do same "$top/tests/data/$name.opb" made/$n
 text empty.opb '+1 x1 +1 x2 >= 3 ;' '+1 x1 >= 1 ;' '+1 x2 +1 x3 >= 1 ;'
 text units.opb '+1 x1 >= 1 ;' '+1 ~x1 >= 1 ;' '+1 x2 +1 x3 >= 1 ;' '+1 x2 +1 ~x3 >= 1 ;'
 for file in empty.opb units.opb; do
-    expect 20 "$cheapest" $file
-    says 's UNSATISFIABLE' refuted
+    for command in solve minimize; do
+        expect 20 "$examples/$command" $file
+        says 's UNSATISFIABLE'
+    done
 done
-expect 20 "$cheapest" "$examples/pigeons.opb"
-says 's UNSATISFIABLE' refuted
+expect 20 "$minimize" "$examples/pigeons.opb"
+says 's UNSATISFIABLE'
 text none.opb 'min: +1 x1 ; +1 x1 +1 x2 >= 3 ;'
-expect 20 "$cheapest" none.opb
-says 's UNSATISFIABLE' refuted
-expect 65 "$cheapest" "$examples/choice.opb"
+expect 20 "$minimize" none.opb
+says 's UNSATISFIABLE'
+expect 65 "$minimize" "$examples/choice.opb"
 lines_of '[osr]' 's SATISFIABLE'
-mentions 'cheapest: there is no objective'
+mentions 'pbcnf-minimize: there is no objective'
 
 # A text that is refused keeps the program's status and line.
 text wrong.opb 'min: x1 ;'
-for script in solve cheapest; do
-    expect 1 "$examples/$script" wrong.opb
+for command in solve minimize; do
+    expect 1 "$examples/$command" wrong.opb
     says
-    tells 'pbcnf: OPB 1:6: expected a coefficient or ;'
-    expect 2 "$examples/$script" "$opb" --general sorter
+    tells 'pbcnf: OPB 1:6: expected a coefficient or ;' \
+        "pbcnf-$command: wrong.opb: 'x1' stands there: a term without its coefficient; pbcnf-tidy makes '+1 x1' of 'x1'"
+    expect 2 "$examples/$command" "$opb" --general sorter
     says
 done
 
-# A CaDiCaL that writes LRAT itself, and drat-trim, are taken where they are there: both are played by scripts here.
+# A CaDiCaL that writes LRAT itself, and drat-trim, are taken where they are there: both are played by scripts here. Nine pigeons in
+# eight holes have a refutation that is long enough for drat-trim.
 mkdir plays
+awk 'BEGIN {
+    for (i = 0; i < 9; i++) { for (j = 1; j <= 8; j++) printf "+1 x%d ", 8 * i + j; print ">= 1 ;" }
+    for (j = 1; j <= 8; j++) { for (i = 0; i < 9; i++) printf "+1 x%d ", 8 * i + j; print "<= 1 ;" }
+}' >nine.opb
 cat >plays/cadical <<'END'
 #!/bin/sh
 case " $* " in
-*' --help '*) echo '  --lrat' ;;
-*' --lrat '*)
-    "$REAL" -q --no-binary "$4" "$5.drat"
-    status=$?
-    "$HINTS" "$4" "$5.drat" >"$5"
-    echo lrat >>"$SEEN"
-    exit $status
-    ;;
+*' --help '*) echo '  --lrat' && exit ;;
+*' --lrat '*) ;;
 *) exec "$REAL" "$@" ;;
 esac
+for word in "$@"; do
+    shift
+    [ "$word" = --lrat ] || set -- "$@" "$word"
+    cnf=${lrat-} lrat=$word
+done
+"$REAL" "$@"
+status=$?
+if [ $status -eq 20 ]; then
+    mv "$lrat" "$lrat.drat"
+    "$HINTS" "$cnf" "$lrat.drat" >"$lrat"
+    echo lrat >>"$SEEN"
+fi
+exit $status
 END
 chmod +x plays/cadical
 with_plays() {
     REAL=$(command -v cadical) HINTS=$examples/hints SEEN=$PWD/seen PATH=$PWD/plays:$PATH "$@"
 }
-expect 0 with_plays "$cheapest" "$opb"
-lines_of '[osr]' 'o 20' 's SATISFIABLE' refuted
+expect 20 with_plays "$solve" "$examples/pigeons.opb"
+says 's UNSATISFIABLE'
 holds seen lrat
-rm plays/cadical
+rm plays/cadical seen
 printf '#!/bin/sh\necho trim >>"$SEEN"\nexec "$HINTS" "$1" "$2" >"$4"\n' >plays/drat-trim
 chmod +x plays/drat-trim
-expect 0 with_plays "$cheapest" "$opb"
-lines_of '[osr]' 'o 20' 's SATISFIABLE' refuted
-holds seen lrat trim
+expect 20 with_plays "$solve" "$examples/pigeons.opb"
+absent seen
+expect 20 with_plays "$solve" nine.opb
+says 's UNSATISFIABLE'
+holds seen trim
+# One that fails is no hindrance.
+printf '#!/bin/sh\nexit 1\n' >plays/drat-trim
+expect 20 with_plays "$solve" nine.opb
+says 's UNSATISFIABLE'
+
+# Hints for a refutation in text, which is one of the problem with the bound alone, and none of another CNF.
+fine encode "$opb" o.cnf o.proof --at-most=19
+cadical -q --no-binary o.cnf o.drat >o.log
+expect 0 "$examples/hints" o.cnf o.drat
+cp "$said" o.lrat
+fine refute "$opb" o.cnf o.proof o.lrat --at-most=19
+says refuted
+expect 1 pb refute "$opb" o.cnf o.proof o.lrat
+says
+fine encode "$opb" o.cnf --at-most=20
+expect 1 "$examples/hints" o.cnf o.drat
 
 # DRAT that is binary, or refutes nothing, or has a clause that does not follow.
 fine encode "$examples/pigeons.opb" o.cnf o.proof
 cadical -q o.cnf o.binary >o.log
 expect 1 "$examples/hints" o.cnf o.binary
-tells 'hints: the DRAT file is binary; CaDiCaL writes text with --no-binary'
+tells 'pbcnf-hints: the DRAT file is binary; CaDiCaL writes text with --no-binary'
 says
 text o.drat
 expect 1 "$examples/hints" o.cnf o.drat
-tells 'hints: the texts end without a conflict, so that nothing is refuted'
+tells 'pbcnf-hints: the texts end without a conflict, so that nothing is refuted'
 text o.drat 'c nothing' '1 0' '-1 0' 0
 expect 1 "$examples/hints" o.cnf o.drat
 mentions 'does not follow by unit propagation'
 expect 2 "$examples/hints" o.cnf
+expect 4 "$examples/hints" o.cnf nowhere.drat
+text o.drat 'c nothing' '1 one 0'
+expect 1 "$examples/hints" o.cnf o.drat
+says
+expect 5 bash -c '"$0" o.cnf o.drat >&-' "$examples/hints"
 
-# Nothing is left behind, also where a signal ends a script.
+# Nothing is left behind, also where a signal ends a command.
 mkdir temporary
 export TMPDIR=$PWD/temporary
-expect 0 "$cheapest" "$opb"
+expect 0 "$minimize" "$opb"
 expect 0 "$solve" "$opb"
 printf '#!/bin/sh\nexec sleep 60\n' >plays/cadical
 rm plays/drat-trim
 chmod +x plays/cadical
-for script in solve cheapest; do
-    PATH=$PWD/plays:$PATH "$examples/$script" "$opb" >slow.said 2>slow.told &
+for command in solve minimize; do
+    PATH=$PWD/plays:$PATH "$examples/$command" "$opb" >slow.said 2>slow.told &
     slow=$!
     for wait in 1 2 3 4 5 6 7 8 9 10; do
         sleep 0.2
@@ -201,6 +242,6 @@ for script in solve cheapest; do
     done
     kill "$slow"
     wait "$slow"
-    last="$script, ended" status=$?
+    last="$command, ended" status=$?
     if [ -z "$(find temporary -mindepth 1)" ]; then passed; else failed "$last: wanted no file left"; fi
 done

@@ -28,6 +28,18 @@ text text '* #variable= 2147483646 #constraint= 1' '-1 x1 -1 x2 -1 x3 >= -1 ;'
 fault 3 'totals: limit variables' encode text o.cnf --amo ladder
 absent o.cnf
 
+# Limits that only long texts pass. The bytes of one are not all there: what a file has none for is read as zeros.
+truncate -s 4294967297 long
+fault 3 'OPB: limit text' map long
+rm long
+yes '>=0;' | head -n 16777217 >text
+fault 3 'OPB 16777217:1: limit statements' map text
+awk 'BEGIN { for (i = 0; i <= 1048576; i++) printf "+1 x1 "; print ">= 1 ;" }' >text
+fault 3 'OPB 1:6291457: limit terms' map text
+awk 'BEGIN { for (i = 1; i <= 400000; i++) printf "-1 x%d ", i; print ">= -1 ;" }' >text
+fault 3 'totals: limit clauses' encode text o.cnf --amo pairwise
+absent o.cnf
+
 # cnf STATUS LINE TEXT: of a CNF text.
 cnf() {
     printf '%s' "$3" >text
@@ -45,6 +57,9 @@ cnf 1 '3:1: expected clause word' $'p cnf 1 2\n1 0\n'
 cnf 1 '2:5: expected cnf end' $'p cnf 1 1\n1 0 1 0\n'
 cnf 3 '1:7: limit variables' $'p cnf 2147483648 0\n'
 cnf 3 '1:9: limit clauses' $'p cnf 1 68719476737\n'
+truncate -s 268435457 long
+fault 3 'CNF 1:1: limit line' probe long
+rm long
 
 # proof STATUS LINE STEP..: of a derivation, whose steps begin in line 3.
 text one.opb '+1 x1 +1 x2 = 1 ;'
@@ -90,6 +105,9 @@ proof 7 'line 3: stack' 'pol 1 +'
 proof 7 'line 3: width' 'pol 1 42535295865117307932921825928971026432 *'
 proof 7 'line 3: sets original x1' 'red +1 x1 >= 1 ; x1 -> 1'
 proof 7 'line 3: not propagated' 'rup +1 x1 >= 1 ;'
+text two.cnf 'p cnf 3 2' '1 2 0' '-1 -2 0'
+text text 'pseudo-Boolean derivation profile 1' 'f 2' 'red +1 x3 >= 1 ; x3 -> 1' 'red +1 ~x3 >= 1 ; x3 -> 0'
+fault 7 'PROOF line 4: obligation 3' check one.opb two.cnf text
 proof 7 'line 5: no clause' 'out 1' 'out 2' 'out 1'
 proof 7 'line 3: not implied by 2' 'out 2'
 proof 7 'line 4: deletes output 1' 'out 1' 'del 1'
@@ -126,3 +144,17 @@ lrat 10 'line 1: unknown hint 9' $'4 0 9 0\n'
 lrat 10 'line 1: no conflict' $'4 0 2 3 0\n'
 lrat 10 'line 1: no empty clause' ''
 lrat 10 'line 2: no empty clause' $'4 1 0 1 3 0\n'
+
+# So each word of the formats is told here, but that of 2^40 lines.
+awk -F'|' '
+    /^\| (in the code|limit|expected) .* printed( as)? \|$/ { what = /greatest/ ? "limit " : / where / ? "expected " : "line [0-9]*: " }
+    !/^\|/ { what = "" }
+    what && !/^\|-/ && match($(NF - 1), /`.*`/) {
+        count = split(substr($(NF - 1), RSTART, RLENGTH), words, "`")
+        for (i = 2; i <= count; i += 2) print what words[i]
+    }' "$top/docs/FORMATS.md" | sed 's/ x\{0,1\}[0-9]*$//' | sort -u | grep -vx 'limit [l]ines' >words
+expect 0 test "$(wc -l <words)" -gt 50
+while read -r word; do
+    grep -q -- "$word" "$top/tests/cases/faults.sh" || printf '%s\n' "$word"
+done <words >untold
+holds untold

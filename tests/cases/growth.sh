@@ -2,17 +2,7 @@
 # without the refusal.
 . "$top/tests/lib.sh"
 
-compiler=
-for name in cc gcc clang; do
-    if has $name; then
-        compiler=$name
-        break
-    fi
-done
-if [ -z "$compiler" ]; then
-    skip 'there is no C compiler'
-    exit 0
-fi
+needs_compiler
 if ! $compiler -O1 -shared -fPIC -o failing.so "$top/tests/failing_malloc.c" -ldl 2>"$state/cc"; then
     skip "$compiler makes no shared library: $(tail -n 1 "$state/cc")"
     exit 0
@@ -62,7 +52,10 @@ grows() {
     last=$(shown "${@:2}")
     run 0 "${@:2}"
     due=("${came[@]}")
-    if [ "${due[0]}" -eq "$1" ]; then passed; else failed "$last: wanted the status $1, got ${due[0]}"; fi
+    if [ "${due[0]}" -ne "$1" ] || [ -z "${due[1]}${due[2]}" ]; then
+        failed "$last: wanted the status $1 and words, got ${due[0]} and $(bytes_of out)"
+        return
+    fi
     for ((n = 1; ; n++)); do
         run $n "${@:2}"
         take refused
@@ -74,8 +67,11 @@ grows() {
         standing+=("${came[0]} ${came[3]}")
         derived+=("${came[0]} ${came[4]}")
     done
-    if [ $n -gt 5 ]; then passed; else failed "$last: only $((n - 1)) allocations were refused"; fi
-    if is_due; then passed; else failed "$last: with $n not reached, it is not what is due"; fi
+    if [ $n -gt 5 ] && is_due; then
+        passed
+    else
+        failed "$last: $((n - 1)) allocations were refused, and the run without is ${came[0]}, $(bytes_of one) and $(bytes_of two)"
+    fi
 }
 
 ln -s "$examples" examples

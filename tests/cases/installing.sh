@@ -1,4 +1,4 @@
-# ./install puts the program, the library, the scripts and their pages in their places, each whole or not at all, and takes them away
+# ./install puts the program, the library, the commands over solvers and their pages in their places, each whole or not at all, and takes them away
 # again; what is older than the sources it refuses. It is tried on a small repository, which then is not there any more.
 . "$top/tests/lib.sh"
 . "$top/tests/repository.sh"
@@ -7,15 +7,7 @@ needs sha256sum readlink find xargs awk
 prefix=$PWD/'another place'
 program=${built[0]}
 source=$copy/crates/pbcnf/src/inner/One
-scripts='solve cheapest hints'
-
-completed() {
-    COMP_WORDS=("$@")
-    COMP_CWORD=$(($# - 1))
-    _pbcnf 2>/dev/null
-    printf '%s\n' "${COMPREPLY[@]}" >"$said"
-    last=$(shown "$@")
-}
+commands='cheapest core hints minimize solve tidy veripb'
 
 # install_copy WORD..: the copy's script.
 install_copy() {
@@ -47,35 +39,44 @@ make_copy() {
     rm -- "${built[@]}"
     cp -- "$top/install" "$copy"
     cp -R -- "$examples" "$top/docs" "$copy"
-    cp -R -- "$top/library/pbcnf.h" "$top/library/python" "$copy/library"
+    cp -R -- "$top"/library/pbcnf.h{,pp} "$top/library/python" "$copy/library"
     touch -d '2020-01-02' "$shipped"/*
     keep
 }
 
-program_files=(bin/pbcnf bin/pbcnf-{solve,cheapest,hints} share/man/man1/pbcnf{,-solve,-cheapest,-hints}.1
-    share/bash-completion/completions/pbcnf{,-solve,-cheapest,-hints} share/pbcnf/folders)
-library_files=(include/pbcnf.h lib/libpbcnf.a lib/libpbcnf.so{,.0} lib/pkgconfig/pbcnf.pc share/pbcnf/pbcnf/{__init__.py,py.typed})
+modules=$(cd "$top/library/python/pbcnf" && echo py.typed *.py */*.py)
+program_files=(bin/pbcnf share/man/man1/pbcnf.1 share/bash-completion/completions/pbcnf share/pbcnf/folders)
+for command in $commands; do
+    program_files+=(bin/pbcnf-$command share/man/man1/pbcnf-$command.1 share/bash-completion/completions/pbcnf-$command)
+done
+for module in $modules; do program_files+=("share/pbcnf/pbcnf/$module"); done
+library_files=(include/pbcnf.h{,pp} lib/libpbcnf.a lib/libpbcnf.so{,.0} lib/pkgconfig/pbcnf.pc)
 
 # All of the release, over what was there before too, and away again.
 try_release() {
-    local script
+    local command
     expect 0 install_copy "$prefix"
     tells
     has_just "$prefix" "${program_files[@]}" "${library_files[@]}"
     same "$pbcnf" "$prefix/bin/pbcnf"
     same "$copy/docs/pbcnf.1" "$prefix/share/man/man1/pbcnf.1"
-    same "$copy/docs/pbcnf.bash" "$prefix"/share/bash-completion/completions/pbcnf{,-solve,-cheapest,-hints}
-    for script in $scripts; do
-        same "$copy/examples/$script" "$prefix/bin/pbcnf-$script"
-        same "$copy/docs/pbcnf-$script.1" "$prefix/share/man/man1/pbcnf-$script.1"
+    same "$copy/docs/pbcnf.bash" "$prefix"/share/bash-completion/completions/pbcnf{,-solve,-hints}
+    for command in $commands; do
+        same "$copy/library/python/command" "$prefix/bin/pbcnf-$command"
+        same "$copy/docs/pbcnf-$command.1" "$prefix/share/man/man1/pbcnf-$command.1"
     done
     same "$copy/library/pbcnf.h" "$prefix/include/pbcnf.h"
     same "$shipped/libpbcnf.a" "$prefix/lib/libpbcnf.a"
     same "$shipped/libpbcnf.so.0" "$prefix/lib/libpbcnf.so.0" "$prefix/lib/libpbcnf.so"
-    same "$copy/library/python/pbcnf/__init__.py" "$prefix/share/pbcnf/pbcnf/__init__.py"
+    for module in $modules; do same "$copy/library/python/pbcnf/$module" "$prefix/share/pbcnf/pbcnf/$module"; done
     grep '^[Vp]' "$prefix/lib/pkgconfig/pbcnf.pc" >lines
     holds lines "prefix=$prefix" 'Version: 1.2.3'
     expect 0 "$prefix/bin/pbcnf" bench 1 0
+    # Everybody may run what is to be run, and read all.
+    expect 0 find "$prefix" \( -type d -o -path '*/bin/*' -type f -o -name '*.so.*' -type f \) ! -perm 755
+    says
+    expect 0 find "$prefix" -type f ! -path '*/bin/*' ! -name '*.so.*' ! -perm 644
+    says
     without_output() {
         install_copy "$1" >&- 2>&-
     }
@@ -87,8 +88,10 @@ try_release() {
     expect 0 install_copy "$prefix"
     same "$pbcnf" "$prefix/bin/pbcnf"
     holds elsewhere 'this is kept'
-    mkdir "$prefix/share/pbcnf/pbcnf/__pycache__"
+    mkdir "$prefix"/share/pbcnf/pbcnf/{,pysat/,tools/}__pycache__
     text "$prefix/share/pbcnf/pbcnf/__pycache__/__init__.cpython-311.pyc" 'a cache'
+    text "$prefix/share/pbcnf/pbcnf/pysat/__pycache__/card.cpython-311.pyc" 'a cache'
+    text "$prefix/share/pbcnf/pbcnf/tools/__pycache__/solve.cpython-311.pyc" 'a cache'
     expect 0 install_copy --remove "$prefix"
     tells
     expect 0 find "$prefix" -mindepth 1
@@ -228,13 +231,14 @@ try_faults() {
     says
 }
 
-# The installed scripts, from another folder and without the repository; a solver is played where there is none.
-try_scripts() {
-    local script
+# The installed commands, from another folder and without the repository; a solver is played where there is none.
+try_commands() {
+    local way command
     expect 0 install_copy "$prefix"
     mv "$copy" away
     mkdir elsewhere.d plays
     cd elsewhere.d || exit
+    export PYTHONDONTWRITEBYTECODE=1
     text "$work/$subject/plays/solver" '#!/bin/sh' 'echo s SATISFIABLE' 'echo v 1 -2 -3 0'
     chmod 755 "$work/$subject/plays/solver"
     text small.opb '+1 rain +1 sun +1 snow >= 1 ;' '+1 rain +1 sun <= 1 ;'
@@ -249,34 +253,46 @@ try_scripts() {
         says 's SATISFIABLE' 'v rain -sun -snow'
         tells
     done
-    for script in solve cheapest; do
-        expect 2 on_path pbcnf-$script
-        tells "pbcnf-$script: usage: pbcnf-$script OPB [option of encode ..]"
+    for command in $commands; do
+        expect 2 on_path pbcnf-$command
+        told_of 'usage: pbcnf-'
     done
-    expect 2 on_path pbcnf-hints
-    tells 'pbcnf-hints: usage: pbcnf-hints CNF DRAT'
     text empty.drat
     expect 0 on_path pbcnf encode small.opb small.cnf
     expect 1 on_path pbcnf-hints small.cnf empty.drat
     tells 'pbcnf-hints: the texts end without a conflict, so that nothing is refuted'
     if has cadical; then
-        expect 0 on_path pbcnf-cheapest "$examples/guards.opb"
-        sed -n '1p; $p' "$said" >ends
-        holds ends 'o 20' refuted
-        told_of 'pbcnf-cheapest: a solution of 20' 'pbcnf-cheapest: checking that there is no cheaper solution'
+        expect 0 env -u SOLVER PATH="$prefix/bin:$PATH" pbcnf-cheapest "$examples/guards.opb"
+        grep '^[os] ' "$said" | tail -n 2 >ends
+        holds ends 'o 20' 's OPTIMUM FOUND'
+        told_of 'pbcnf-minimize: ' '20 <= objective <= 20'
     else
         skip 'there is no cadical'
     fi
-    # A script by itself, where no program is found.
-    cp "$prefix/bin/pbcnf-solve" "$prefix/bin/pbcnf-cheapest" .
-    mkdir tools
-    for tool in sh dirname; do ln -s "$(command -v $tool)" tools/$tool; done
-    for script in solve cheapest; do
-        expect 69 env PATH="$PWD/tools" "./pbcnf-$script" small.opb
-        tells "pbcnf-$script: pbcnf is not on the path"
-    done
     cd ..
     mv away "$copy"
+}
+
+# Without Python, that is said; and without the program.
+try_missing() {
+    local command
+    expect 0 install_copy "$prefix"
+    mkdir tools
+    for command in sh dirname readlink; do ln -s "$(command -v $command)" tools/$command; done
+    for command in solve tidy; do
+        expect 69 env PATH="$PWD/tools" "$prefix/bin/pbcnf-$command" small.opb
+        says
+        tells "pbcnf-$command: python3 is not on the path; Python 3.8 or later is needed"
+    done
+    has python3 || return
+    rm "$prefix/bin/pbcnf"
+    printf '#!/bin/sh\nexec "%s" "$@"\n' "$(python3 -c 'import sys; print(sys.executable)')" >tools/python3
+    chmod 755 tools/python3
+    for command in solve minimize; do
+        expect 69 env PATH="$PWD/tools" "$prefix/bin/pbcnf-$command" small.opb
+        says
+        tells "pbcnf-${command}: pbcnf is not on the path"
+    done
 }
 
 make_copy
@@ -290,7 +306,8 @@ try_strangers
 mkdir "$prefix"
 try_built
 try_faults
-try_scripts
+if has python3; then try_commands; else skip 'there is no python3'; fi
+try_missing
 
 if has man; then
     for page in "$top"/docs/*.1; do
@@ -301,8 +318,6 @@ else
     skip 'there is no man'
 fi
 
-compopt() { :; }
-. "$top/docs/pbcnf.bash"
 completed pbcnf ''
 says encode wcnf check refute decode map probe bench
 completed pbcnf re
@@ -324,3 +339,5 @@ completed pbcnf-solve a.opb --at
 says --at-most= --at-most-minus=
 completed pbcnf-cheapest a.opb --card t
 says totalizer
+completed pbcnf-minimize a.opb --j
+says --jobs

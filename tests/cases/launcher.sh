@@ -18,9 +18,8 @@ launch() {
 
 # The program runs, and nothing else is told.
 runs() {
-    expect 0 launch bench 1 0
+    well launch bench 1 0
     clauses_alone 11 1
-    tells
 }
 
 # put_program FOLDER/NAME: a program that says what it is, below the copy. The real one is the last that is put.
@@ -128,10 +127,15 @@ rmdir "$copy/crates/pbcnf/proofs"
 
 # A source that changed, of whatever time, is seen, in whichever way it changed; and one that changed back.
 refused() {
-    expect 70 launch bench 1 0
-    says
-    told_of "$1"
-    told_of 'rt, which builds one, is not on the path'
+    local got
+    last=$(shown launch bench 1 0)
+    launch bench 1 0 >"$said" 2>"$told"
+    got=$?
+    if [ $got -eq 70 ] && [ ! -s "$said" ] && grep -q "$1.*rt, which builds one, is not on the path" "$told"; then
+        passed
+    else
+        failed "$last: wanted the status 70 and '$1', got $got; it told $(bytes_of "$told") and said $(bytes_of "$said")"
+    fi
 }
 runs
 printf '// A sourcf.\n' >"$source"
@@ -147,9 +151,52 @@ mv "$copy/crates/pbcnf_c/src/lib.rt" "$copy/crates/pbcnf_c/src/other.rt"
 refused 'is of other sources'
 mv "$copy/crates/pbcnf_c/src/other.rt" "$copy/crates/pbcnf_c/src/lib.rt"
 runs
+# Statements count as the code does.
+mkdir "$copy/crates/pbcnf/specs"
+text "$copy/crates/pbcnf/specs/Run.antt" '// A statement.'
+rm "$mark"
+put_page
+runs
+text "$copy/crates/pbcnf/specs/Run.antt" '// Another one.'
+refused 'is of other sources'
+text "$copy/crates/pbcnf/specs/Run.antt" '// A statement.'
+runs
+text "$copy/crates/pbcnf/specs/More.antt" '// A statement.'
+refused 'is of other sources'
+rm -r "$copy/crates/pbcnf/specs"
+put_page
+runs
 printf '\n' >>"$copy/crates.txt"
 refused 'is of other sources'
 text "$copy/crates.txt" 'pb_words:' 'pbcnf: pb_words' 'pbcnf_c staticlib:'
+runs
+
+# A source that changes while the program is chosen is newer than the choice.
+mv "$copy/release/sources" "$copy/release/asked"
+text "$copy/release/sources" '#!/bin/sh' "'$copy/release/asked' \"\$@\"" 'status=$?' "printf '// A sourcf.\n' >'$source'" \
+    'sleep 0.1' 'exit $status'
+chmod 755 "$copy/release/sources"
+rm "$mark"
+runs
+mv "$copy/release/asked" "$copy/release/sources"
+refused 'is of other sources'
+printf '// A source.\n' >"$source"
+runs
+
+# The program takes the launcher's place: it is the same process, whether the choice stands or is made first.
+mv "$copy/$released/pbcnf" real
+text "$copy/$released/pbcnf" '#!/bin/sh' '[ $# -gt 0 ] || exit 2' 'echo $$'
+chmod 755 "$copy/$released/pbcnf"
+put_page
+takes_over() {
+    PATH=$PWD/bin sh -c 'echo $$; exec "$0" bench 1 0' "$copy/pbcnf" | uniq -c | awk '{ print $1 }'
+}
+for _ in made stands; do
+    expect 0 takes_over
+    says 2
+done
+mv real "$copy/$released/pbcnf"
+put_page
 runs
 
 # A program of release/ with other bytes than its page says, one that does not run, and none.
@@ -220,6 +267,17 @@ holds asked '--program'
 builds 'exit 0'
 expect 70 launch bench 1 0
 told_of 'the build made no program'
+
+# Nor does an older program run in its place.
+put_program "$built"
+touch -d '2020-01-01' "$copy/$built"
+for status in 70 0; do
+    touch "$source"
+    builds "exit $status"
+    expect 70 launch bench 1 0
+    says
+done
+rm "$copy/$built"
 builds "cp '$pbcnf' '$copy/$built'" ": >'$copy/$built.stamp'"
 expect 0 launch bench 1 0
 clauses_alone 11 1

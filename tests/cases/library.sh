@@ -10,13 +10,7 @@ if [ ! -f "$linked/libpbcnf.a" ] || [ ! -f "$linked/libpbcnf.so.0" ]; then
     exit 0
 fi
 
-compiler=
-for name in cc gcc clang; do
-    if has $name; then
-        compiler=$name
-        break
-    fi
-done
+find_compiler
 
 # judged CMD..: the command says at last how many checks it has made, and none has failed.
 judged() {
@@ -32,6 +26,11 @@ judged() {
 # compile PROGRAM FLAG..: makes it of a file of tests/library and the static library.
 compile() {
     expect 0 "$compiler" -std=c11 -Wall -Wextra -Wpedantic -Werror -O1 -g -I "$library" -I . "$own/$1.c" "$linked/libpbcnf.a" "${@:2}" -o "$1"
+}
+
+# compile_beside PROGRAM FILE: makes it of two files, without the library.
+compile_beside() {
+    expect 0 "$compiler" -std=c11 -Wall -Wextra -Wpedantic -Werror -O1 -I "$library" "$own/$1.c" "$own/$2.c" -o "$1"
 }
 
 # makes FLAG..: whether the compiler makes a program with these flags that runs.
@@ -58,6 +57,11 @@ restate() {
     "$compiler" -std=c11 -Wall -Wextra -Werror -fsyntax-only -I changed restated.c
 }
 
+# The calls that the header declares.
+declared() {
+    grep -o '^uint[0-9]*_t pbcnf_[a-z_]*' "$library/pbcnf.h" | cut -d' ' -f2 | sort
+}
+
 # The header declares just what the sources export, with the same types; a header that is changed is refused.
 try_signatures() {
     local change
@@ -73,8 +77,11 @@ try_signatures() {
         expect 1 restate "$change"
     done
     "$own/signatures" --calls "${sources[@]}" | sort >exported
-    grep -o '^uint8_t pbcnf_[a-z_]*' "$library/pbcnf.h" | cut -d' ' -f2 | sort >declared
+    declared >declared
     same exported declared
+    # No compiler counts an enumerator: a variant that is put in the middle moves none.
+    grep -E '^ *(enum \{ )?PBCNF_[A-Z_]+,?( |$)' "$library/pbcnf.h" | grep -v = >uncounted
+    holds uncounted
     "$own/signatures" --constants EXPECTED "$library/pbcnf.h" >expected.h
     "$own/signatures" --constants LIMIT "$library/pbcnf.h" >limits.h
     "$own/signatures" --constants DENIED "$library/pbcnf.h" >denied.h
@@ -89,11 +96,27 @@ try_symbols() {
         skip 'there is no nm'
         return
     fi
-    grep -o '^uint8_t pbcnf_[a-z_]*' "$library/pbcnf.h" | cut -d' ' -f2 | sort >declared
+    declared >declared
     nm -g --defined-only "$linked/libpbcnf.a" | awk 'NF == 3 { print $3 }' | sort >offered
     same declared offered
-    nm -D --defined-only "$linked/libpbcnf.so.0" | awk 'NF == 3 { print $3 }' | sort >offered
-    same declared offered
+    # In the shared library each has the version of the interface.
+    sed "s/\$/@@PBCNF_$(sed -n 's/^#define PBCNF_ABI //p' "$library/pbcnf.h")/" declared >versioned
+    nm -D --defined-only "$linked/libpbcnf.so.0" | awk '$2 == "T" { print $3 }' | sort >offered
+    same versioned offered
+}
+
+# A program that was linked with the shared library is not started with one of another interface.
+try_interface() {
+    local abi
+    abi=$(sed -n 's/^#define PBCNF_ABI //p' "$library/pbcnf.h")
+    text asks.c '#include "pbcnf.h"' 'int main(void) { return pbcnf_abi() != PBCNF_ABI; }'
+    mkdir this other
+    cp "$linked/libpbcnf.so.0" this
+    sed "s/PBCNF_$abi/PBCNF_$((abi + 1))/g" "$linked/libpbcnf.so.0" >other/libpbcnf.so.0
+    expect 0 "$compiler" -I "$library" asks.c this/libpbcnf.so.0 -o asks
+    expect 0 env LD_LIBRARY_PATH="$PWD/this" ./asks
+    expect 1 env LD_LIBRARY_PATH="$PWD/other" ./asks
+    told_of "version .*PBCNF_$abi.* not found"
 }
 
 try_programs() {
@@ -111,6 +134,12 @@ try_programs() {
     fi
     compile threads -pthread
     judged ./threads
+    compile forks -pthread
+    judged ./forks
+    compile nulls
+    judged ./nulls
+    compile_beside nulls exports
+    judged ./nulls
     if makes -fsanitize=address,undefined; then
         compile rooms -fsanitize=address,undefined
         judged ./rooms
@@ -139,6 +168,7 @@ try_bytes() {
 if [ -n "$compiler" ]; then
     try_header
     try_signatures
+    try_interface
     try_programs
 else
     skip 'there is no C compiler'

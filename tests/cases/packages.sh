@@ -12,19 +12,15 @@ if [ ! -f "$linked/libpbcnf.a" ] || [ ! -f "$linked/libpbcnf.so.0" ]; then
     exit 0
 fi
 
-compiler=
-for name in cc gcc clang; do
-    if has $name; then
-        compiler=$name
-        break
-    fi
-done
+find_compiler
 python=
 if has python3; then python=python3; else skip 'there is no python3'; fi
 export PBCNF_LIBRARY=$linked/libpbcnf.so.0 PYTHONPATH=$library/python${PYTHONPATH:+:$PYTHONPATH} PYTHONDONTWRITEBYTECODE=1
 
 try_python() {
-    expect 0 $python "$own/module.py"
+    local tests
+    for tests in module values pysat_names modelling; do run_tests "$own/$tests.py"; done
+    expect 0 $python "$own/enumerators.py" "$library/pbcnf.h" "$library/rust/src/numbers.rs"
     # What the README prints of its program.
     mkdir blocks
     awk -v to=blocks -f "$top/tests/blocks.awk" "$top/README.md"
@@ -86,6 +82,39 @@ try_links() {
     says "$(cat "$top/VERSION") 0 0"
 }
 
+# The header for C++.
+try_header() {
+    if ! has c++; then
+        skip 'there is no c++'
+        return
+    fi
+    expect 0 c++ -std=c++17 -Wall -Wextra -Wpedantic -Werror -I "$library" "$own/header.cc" "$linked/libpbcnf.a" -o header
+    expect 0 ./header
+    if c++ -fsanitize=address,undefined -x c++ - -o try <<<'int main() {}' 2>"$state/cc" && ./try 2>>"$state/cc"; then
+        expect 0 c++ -std=c++17 -fsanitize=address,undefined -I "$library" "$own/header.cc" "$linked/libpbcnf.a" -o header
+        expect 0 ./header
+    else
+        skip 'c++ has no AddressSanitizer'
+    fi
+}
+
+# The first program of docs/LIBRARY.md takes files of any size, and says what is refused.
+try_first() {
+    local var
+    [ -n "$compiler" ] || return
+    mkdir page
+    awk -v to=page -f "$top/tests/blocks.awk" "$top/docs/LIBRARY.md"
+    expect 0 "$compiler" -Wall -Wextra -Werror -I "$library" page/files/first.c "$linked/libpbcnf.a" -o first.out
+    for ((var = 1; var < 6000; var++)); do printf '+1 x%d +1 x%d >= 1 ;\n' $var $((var + 1)); done >long.opb
+    expect 0 ./first.out long.opb
+    head -n 1 "$said" >sizes
+    holds sizes 'the problem has 6000 of 6000 variables, 5999 clauses'
+    text wrong.opb '+1 x1 >= ;'
+    expect 1 ./first.out wrong.opb
+    tells 'pbcnf: OPB 1:10: expected an integer'
+    expect 4 ./first.out no.opb
+}
+
 # solves CMD..: the example solves OPB files.
 solves() {
     expect 0 "$@" "$examples/knapsack.opb"
@@ -118,7 +147,7 @@ try_examples() {
     fi
     if has c++ && echo '#include <cadical.hpp>' >has.cc && c++ -fsyntax-only has.cc 2>"$state/cc"; then
         for name in solve cheapest; do
-            expect 0 c++ -Wall -Wextra -Werror "$library/examples/$name.cc" "${flags[@]}" -o $name.cc.out
+            expect 0 c++ -std=c++17 -Wall -Wextra -Werror "$library/examples/$name.cc" "${flags[@]}" -o $name.cc.out
         done
         solves ./solve.cc.out
         finds_the_cheapest ./cheapest.cc.out
@@ -144,4 +173,6 @@ try_examples() {
 [ -z "$python" ] || try_python
 try_rust
 try_install
+try_header
+try_first
 try_examples

@@ -1,4 +1,5 @@
-# What the pages name is there: files, headings, crates. README is short, and the picture of the layers is that of crates.txt.
+# What the pages name is there: files, headings, crates. README is short, the picture of the layers is that of crates.txt, and the page
+# of claims is what the contracts and their comments say.
 . "$top/tests/lib.sh"
 
 # Each is passed or failed by what it prints.
@@ -102,6 +103,11 @@ long_lines() {
     awk 'length > 200 { print "line " FNR " has " length " bytes" } END { if (FNR > 70) print FNR " lines" }' "$top/README.md"
 }
 
+# The sentences of more than 45 words, of all pages but CHANGELOG.md.
+long_sentences() {
+    (cd "$top" && docs/tools/sentences README.md CONTRIBUTING.md docs/*.md)
+}
+
 # Files that have another version than VERSION.
 other_versions() {
     "$top/docs/tools/version" --check
@@ -144,8 +150,12 @@ finds_none 'a definition' misplaced_specs
 if has python3; then
     "$top/docs/tools/layers" --print >layers.svg
     same "$top/docs/layers.svg" layers.svg
+    "$top/docs/tools/claims" >claims.md
+    same "$top/docs/CLAIMS.md" claims.md
+    finds_none 'a statement' "$top/docs/tools/claims" --faults
+    finds_none 'a long sentence' long_sentences
 else
-    skip 'there is no python3, which draws docs/layers.svg'
+    skip 'there is no python3, which draws docs/layers.svg, prints docs/CLAIMS.md and counts words'
 fi
 if has rt; then
     finds_none 'the logic of the kit' other_logic

@@ -62,6 +62,18 @@ try_install() {
     tells
 }
 
+# A checker of types sees those of the package from a program that has it installed.
+try_types() {
+    if ! has mypy; then
+        skip 'there is no mypy'
+        return
+    fi
+    text typed.py 'import pbcnf' 'reveal_type(pbcnf.encode("", general="tree").clauses[0])' 'pbcnf.encode("", general="sorter")'
+    expect 1 mypy --strict --cache-dir=/dev/null --enable-incomplete-feature=Unpack --python-executable $python typed.py
+    mentions 'Revealed type is "builtins.list[builtins.int]"'
+    mentions 'Argument "general" to "encode" has incompatible type'
+}
+
 # The wheel is for just the systems that have what the library asks for, and the same each time.
 try_wheel() {
     local wheel least
@@ -95,7 +107,8 @@ if [ -z "$library" ]; then
     exit 0
 fi
 try_install --no-build-isolation
-expect 0 $python "$top/tests/library/module.py"
+for tests in module values; do expect 0 $python "$top/tests/library/$tests.py"; done
+try_types
 expect 0 fresh/bin/pip uninstall -y pbcnf
 expect 0 find fresh -name '*pbcnf*'
 says

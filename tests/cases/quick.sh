@@ -3,7 +3,7 @@
 
 needs python3
 for name in "$top"/tests/gate/test_*.py; do
-    expect 0 python3 "$name"
+    run_tests "$name"
 done
 
 # A copy with six crates, over a kit whose prover proves nothing (tests/building/kit), and with tests that only say how much passed.

@@ -1,6 +1,7 @@
 # Each text is read to its end once: one read of it gives nothing, whether or not its last line has an LF. So at a terminal one
 # end of input is enough, and nothing behind it is lost.
 . "$top/tests/lib.sh"
+. "$top/tests/problems.sh"
 
 needs strace
 if ! strace -o trace true 2>"$state/strace"; then
@@ -10,14 +11,16 @@ fi
 
 # ends COUNT WORD..: the run ends well, and as many reads give nothing as there are texts.
 ends() {
-    local count=$1 ended
+    local count=$1 ended got
     shift
-    expect 0 strace -qq -e trace=read -o trace "$pbcnf" "$@"
-    ended=$(grep -c ' = 0$' trace)
-    if [ "$ended" -eq "$count" ]; then
+    last=$(shown "$@")
+    strace -qq -e trace=read,write -o trace "$pbcnf" "$@" >"$said" 2>"$told"
+    got=$?
+    ended=$(grep -c '^read(.* = 0$' trace)
+    if [ $got -eq 0 ] && [ "$ended" -eq "$count" ] && [ -s "$said" -o "$1" = map ]; then
         passed
     else
-        failed "$last: wanted $count reads that give nothing, got $ended"
+        failed "$last: wanted the status 0 and $count reads that give nothing, got $got and $ended"
     fi
 }
 
@@ -43,3 +46,19 @@ ends 0 bench 10 7 n.cnf
 : >empty
 ends 1 encode empty n.cnf
 ends 1 map empty
+
+# A text is read, and a file is written, in pieces of 64 KiB. (The loader reads once, and words are written once.)
+in_pieces() {
+    local calls pieces
+    calls=$(grep -c "^$1(" trace)
+    pieces=$(($(stat -c %s "$2") / 65536))
+    if [ "$pieces" -gt 5 ] && [ "$calls" -le $((pieces + 4)) ]; then
+        passed
+    else
+        failed "$last: wanted $pieces calls of $1 and a few, got $calls"
+    fi
+}
+clauses 30000
+well strace -qq -e trace=read,write -o trace "$pbcnf" encode clauses.opb n.cnf
+in_pieces read clauses.opb
+in_pieces write n.cnf

@@ -18,16 +18,27 @@ same o.wcnf old.wcnf
 fine bench 3 1 old.generated
 same g.cnf old.generated
 
+# So is a text of a few bytes.
+text few.opb '+1 x1 >= 1 ;'
+text few.cnf 'p cnf 1 1' '1 0' 'and more'
+fine encode few.opb few.cnf
+holds few.cnf 'p cnf 1 1' '1 0'
+rm few.opb few.cnf
+
 # It is the same file, by each of its names, with its rights.
 cp old kept
 chmod 640 kept
 ln kept other
 fine encode "$opb" kept
 same o.cnf kept other
-is_mode() {
-    [ "$(stat -c %a kept)" = 640 ]
-}
-expect 0 is_mode
+expect 0 stat -c %a kept
+says 640
+
+# A new file has the rights that the mask leaves.
+fine encode "$opb" new.cnf new.proof
+expect 0 stat -c %a new.cnf new.proof
+says 644 644
+rm new.cnf new.proof
 
 # keeps STATUS LINE WORD..: the run fails before it makes anything.
 keeps() {

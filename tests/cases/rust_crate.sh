@@ -18,7 +18,7 @@ make_project() {
     mkdir -p "$1/src"
     text "$1/Cargo.toml" '[package]' "name = \"$1\"" 'version = "1.0.0"' 'edition = "2021"' '[dependencies]' "pbcnf = { path = \"$2\" }"
     text "$1/src/main.rs" 'fn main() {' \
-        '    let encoding = pbcnf::encode(b"+2 x1 +1 x2 +1 x3 >= 3 ;", None, &pbcnf::Options::default()).unwrap();' \
+        '    let encoding = pbcnf::encode(b"+2 x1 +1 x2 +1 x3 >= 3 ;", None, &pbcnf::Options::new()).unwrap();' \
         '    println!("{:?}", encoding.clauses().collect::<Vec<_>>());' '}'
 }
 

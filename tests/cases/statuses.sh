@@ -39,9 +39,9 @@ absent none
 
 # 6: out of memory.
 narrow() {
-    (ulimit -v 60000 && "$pbcnf" "$@")
+    (ulimit -v 8192 && "$pbcnf" "$@")
 }
-awk 'BEGIN { print "p cnf 2000000 2000000"; for (i = 1; i <= 2000000; i++) print i, 0 }' >large.cnf
+awk 'BEGIN { print "p cnf 400000 400000"; for (i = 1; i <= 400000; i++) print i, 0 }' >large.cnf
 expect 6 narrow probe large.cnf
 says
 tells 'pbcnf: out of memory'

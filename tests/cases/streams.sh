@@ -25,19 +25,21 @@ closed() {
     esac
 }
 
-# complains WHICH LINE: the line stands on standard error, if that is open.
-complains() {
-    case $1 in
-    *2*) tells ;;
-    *) tells "$2" ;;
-    esac
-}
-
-# ends WHICH STATUS LINE WORD..: as `fault`, without these streams.
+# ends WHICH STATUS LINE WORD..: as `fault`, without these streams; the line stands on standard error, if that is open.
 ends() {
-    expect "$2" closed "$1" "${@:4}"
-    says
-    complains "$1" "$3"
+    local got
+    last="without $1: $(shown "${@:4}")"
+    closed "$1" "${@:4}" >"$said" 2>"$told"
+    got=$?
+    case $1 in
+    *2*) text "$state/due" ;;
+    *) text "$state/due" "$3" ;;
+    esac
+    if [ $got -eq "$2" ] && [ ! -s "$said" ] && cmp -s "$state/due" "$told"; then
+        passed
+    else
+        failed "$last: wanted the status $2 and $(bytes_of "$state/due"), got $got; it told $(bytes_of "$told")"
+    fi
 }
 
 # speaks WHICH WORD..: a command that says something ends well exactly where standard output is open.
@@ -46,8 +48,7 @@ speaks() {
     *1*) ends "$1" 5 'pbcnf: write fault' "${@:2}" ;;
     *)
         "$pbcnf" "${@:2}" >"$state/words"
-        expect 0 closed "$@"
-        tells
+        well closed "$@"
         same "$state/words" "$said"
         ;;
     esac

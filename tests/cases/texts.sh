@@ -103,13 +103,23 @@ cat "$opb" >in &
 expect 0 pb encode in three.cnf
 same summary "$said"
 same o.cnf three.cnf
-cat out >four.cnf &
-expect 0 pb encode "$opb" out
-same summary "$said"
-wait
+kill $! 2>"$state/kill"
+# What is made goes to a reader, which has all once the program has ended; at most two seconds later.
+made_for() {
+    local reader turn
+    cat out >"$1" &
+    reader=$!
+    shift
+    expect 0 pb "$@"
+    same summary "$said"
+    for turn in {1..20}; do
+        kill -0 $reader 2>"$state/kill" || return
+        sleep 0.1
+    done
+    kill $reader
+}
+made_for four.cnf encode "$opb" out
 same o.cnf four.cnf
-cat out >four.proof &
-expect 0 pb encode "$opb" five.cnf out
-wait
+made_for four.proof encode "$opb" five.cnf out
 same o.cnf five.cnf
 same o.proof four.proof

@@ -6,8 +6,7 @@ export PYTHONPATH=$top/library/python PYTHONDONTWRITEBYTECODE=1 PBCNF=$pbcnf
 [ ! -e "$linked/libpbcnf.so.0" ] || export PBCNF_LIBRARY=$linked/libpbcnf.so.0
 tidy=$top/examples/tidy
 
-expect 0 python3 "$top/library/python/tests/test_tidy.py"
-if grep -q '^OK (skipped' "$told"; then skip "test_tidy.py: $(grep '^OK' "$told")"; fi
+run_tests "$top/library/python/tests/test_tidy.py"
 
 # The words between `` of a cell.
 bare() {

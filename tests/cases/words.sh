@@ -7,7 +7,6 @@ text a.cnf 'p cnf 2 1' '1 2 0'
 
 refuses() {
     fault 2 "$usage" "$@"
-    absent o.cnf o.proof
 }
 
 refuses
@@ -51,6 +50,7 @@ refuses bench 1000001 1
 refuses bench 1 4294967296
 refuses bench 1 -1
 refuses bench 1 1 o.cnf --general adder
+absent o.cnf o.proof
 
 # What is allowed: options before, between and behind, with a blank or =, leading zeros, and names behind --.
 fine encode a.opb one.cnf --amo pairwise --budget 007

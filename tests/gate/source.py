@@ -1,4 +1,5 @@
 """The functions of a file of Rust, found by its text: where each begins, and where its body stands."""
+import functools
 import re
 
 # Comments, strings and characters; a lifetime is none.
@@ -17,6 +18,7 @@ class Function:
         self.calls = set(CALL.findall(text[body[0] : body[1]]))
 
 
+@functools.lru_cache(maxsize=16)
 def blanked(text):
     """The text with comments, strings and characters blanked, at the same places."""
     return APART.sub(lambda it: re.sub(r"[^\n]", " ", it[0]), text)

@@ -1,15 +1,20 @@
 #!/usr/bin/env python3
 """Tests what the Python module itself does: its classes, its exceptions, and what it says to values that are none.
 
-It looks for the library as a user's program would. usage: module.py
+It looks for the library as a user's program would. usage: module.py [-v]
 """
 
 import concurrent.futures
+import copy
 import doctest
+import os
+import pickle
+import subprocess
 import sys
 import unittest
 
 import pbcnf
+from pbcnf import _native
 
 OPB = "min: +3 rain -2 sun ;\n+2 rain +1 sun +1 x1 x2 >= 2 ;\n+1 rain +1 x1 = 1 ;\n"
 
@@ -24,6 +29,36 @@ class Encodings(unittest.TestCase):
     def test_bytes_are_a_text(self):
         self.assertEqual(pbcnf.encode(OPB.encode()), pbcnf.encode(OPB))
 
+    def test_a_sequence_of_clauses(self):
+        encoding = pbcnf.encode(" ".join("+%d x%d" % (n % 7 + 1, n) for n in range(1, 121)) + " >= 200 ;")
+        integers, clauses = list(encoding.integers), []
+        self.assertGreater(len(integers), 30000)
+        while integers:
+            end = integers.index(0)
+            clauses.append(integers[:end])
+            del integers[:end + 1]
+        self.assertEqual((list(encoding), len(encoding), len(encoding.clauses)), (clauses, len(clauses), len(clauses)))
+        self.assertEqual((encoding.clauses, encoding.clauses[:]), (clauses, clauses))
+        self.assertEqual((encoding.clauses[0], encoding.clauses[-1], encoding.clauses[5:9:2]), (clauses[0], clauses[-1], clauses[5:9:2]))
+        self.assertTrue(clauses[7] in encoding.clauses and [0] not in encoding.clauses)
+        self.assertRaises(IndexError, encoding.clauses.__getitem__, len(clauses))
+        self.assertNotEqual(encoding.clauses, clauses[1:])
+
+    def test_what_is_frozen_is(self):
+        encoding = pbcnf.encode("+1 x1 >= 1 ;")
+        for change in (lambda: encoding.clauses.append([99]), lambda: encoding.integers.__setitem__(0, 77), lambda: setattr(encoding, "variables", 5)):
+            self.assertRaises((AttributeError, TypeError), change)
+        encoding.clauses[0].append(99)
+        self.assertEqual((encoding.clauses, list(encoding.integers)), ([[1]], [1, 0]))
+        same, other = pbcnf.encode("+1 x1 >= 1 ;"), pbcnf.encode("+1 x2 >= 1 ;")
+        self.assertEqual((encoding, hash(encoding)), (same, hash(same)))
+        self.assertNotEqual(encoding, other)
+        for copied in (copy.copy(encoding), copy.deepcopy(encoding), pickle.loads(pickle.dumps(encoding))):
+            self.assertEqual((copied, list(copied)), (encoding, [[1]]))
+
+    def test_it_is_shown_in_short(self):
+        self.assertEqual(repr(pbcnf.encode("+1 x1 >= 1 ;" * 1000)), "<Encoding: 1 of 1 variables, 1000 clauses>")
+
     def test_an_empty_clause(self):
         self.assertEqual(pbcnf.encode("+1 x1 >= 2 ;").clauses, [[]])
         self.assertEqual(pbcnf.encode("").clauses, [])
@@ -36,6 +71,18 @@ class Encodings(unittest.TestCase):
         self.assertGreater(len(pbcnf.encode(text).integers), 2 * len(text) + 1024)
         terms = [(3 * n % 101 + 1, n) for n in range(1, 41)]
         self.assertEqual(pbcnf.constraint(terms, ">=", 900, first=41).integers, pbcnf.encode(text).integers)
+
+    def test_results_are_their_own_where_a_room_is_used_again(self):
+        made = []
+        for bound in (1, 30, 7, 60, 2):
+            terms = [(n % 9 + 1, n) for n in range(1, 31)]
+            encoding = pbcnf.constraint(terms, "<=", bound, first=31)
+            rows = pbcnf.bounds("min: +%d x1 -2 x2 ;" % bound)
+            text = pbcnf.dimacs("+1 x%d >= 1 ;" % bound)
+            made.append((encoding, encoding.integers.tolist(), rows, list(rows), text, "p cnf %d 1\n%d 0\n" % (bound, bound)))
+        for encoding, integers, rows, copied, text, due in made:
+            self.assertEqual((encoding.integers.tolist(), rows, text), (integers, copied, due))
+        self.assertEqual(len({tuple(integers) for _, integers, *_ in made}), len(made))
 
     def test_one_constraint(self):
         one = pbcnf.constraint([(1, 1), (1, -2), (1, 3)], "<=", 1, first=10)
@@ -72,7 +119,8 @@ class Judgements(unittest.TestCase):
         self.assertIsNone(pbcnf.check(*self.texts))
         with self.assertRaises(pbcnf.Rejected) as caught:
             pbcnf.check(self.UNSOLVED, "p cnf 1 2\n1 0\n1 0\n", self.texts[2])
-        self.assertEqual((str(caught.exception), caught.exception.line), ("pbcnf: PROOF line 6: not implied by 4", 6))
+        told = caught.exception
+        self.assertEqual((str(told), told.line, told.reason), ("pbcnf: PROOF line 6: not implied by 4", 6, "not implied by 4"))
         with self.assertRaises(pbcnf.Refused) as caught:
             pbcnf.check(*self.texts[:2], "")
         self.assertEqual((caught.exception.file, caught.exception.line, caught.exception.column), ("PROOF", 1, 1))
@@ -108,14 +156,40 @@ class Faults(unittest.TestCase):
         self.assertEqual(self.raised(pbcnf.NotASolution, pbcnf.decode, OPB, [3, 4], at_most=0).statement, 3)
         self.assertEqual(self.raised(pbcnf.NoModel, pbcnf.decode, OPB, "s UNSATISFIABLE\n").status, 9)
 
-    def test_values_that_are_none(self):
-        for call in (lambda: pbcnf.encode("", general="sorter"), lambda: pbcnf.encode("", budget=0), lambda: pbcnf.encode("", budget=1 << 40),
-                     lambda: pbcnf.constraint([(1, 0)], ">=", 1, first=2), lambda: pbcnf.constraint([(1, 1)], ">=", 1, first=1),
-                     lambda: pbcnf.constraint([(1, 1)], ">=", 1, first=-1), lambda: pbcnf.constraint([(1, 1 << 40)], ">=", 1, first=2),
-                     lambda: pbcnf.constraint([(1, 1)], ">", 1, first=2)):
-            self.raised(ValueError, call)
-        self.raised(TypeError, pbcnf.encode, "", sorter=1)
-        self.raised(OverflowError, pbcnf.encode, "", at_most=1 << 200)
+    def test_they_are_copied_and_pickled(self):
+        for call in (lambda: pbcnf.encode("+1 x1 >= ;"), lambda: pbcnf.encode("+1 x2147483648 >= 1 ;"), lambda: pbcnf.encode("", budget=0),
+                     lambda: pbcnf.decode(OPB, []), lambda: pbcnf.decode(OPB, "s UNSATISFIABLE\n"), lambda: pbcnf.check("", "", ""),
+                     lambda: pbcnf.check("", "p cnf 0 0\n", "pbcnf proof 1\nend\n")):
+            error = self.raised(pbcnf.Error, call)
+            for made in (copy.copy(error), copy.deepcopy(error), pickle.loads(pickle.dumps(error))):
+                self.assertEqual((type(made), str(made), made.status, vars(made)), (type(error), str(error), error.status, vars(error)))
+
+    def test_a_pool_of_processes_hands_them_on(self):
+        with concurrent.futures.ProcessPoolExecutor(1) as pool:
+            self.assertEqual(pool.submit(pbcnf.encode, "+1 x1 >= ;").exception().column, 10)
+            self.assertEqual(pool.submit(pbcnf.encode, OPB).result(), pbcnf.encode(OPB))
+
+
+class Libraries(unittest.TestCase):
+    def loaded(self, place):
+        """What a program says that takes the library from there."""
+        words = "import pbcnf\ntry:\n    pbcnf.encode('')\nexcept pbcnf.NoLibrary as error:\n    print(isinstance(error, OSError), error)"
+        return subprocess.run([sys.executable, "-c", words], env={**os.environ, "PBCNF_LIBRARY": place}, stdout=subprocess.PIPE, text=True, check=True).stdout
+
+    def test_there_is_none(self):
+        self.assertRegex(self.loaded("/no/such/library"), "^True pbcnf: the C library was not found: /no/such/library: ")
+
+    def test_another_library(self):
+        self.assertRegex(self.loaded("libm.so.6"), "^True pbcnf: the library libm.so.6 is of another version: .*pbcnf_abi")
+
+    def test_another_interface(self):
+        class Other:
+            @staticmethod
+            def pbcnf_abi():
+                return _native.ABI + 1
+
+        self.assertIsNone(_native._judge_interface(_native.library()))
+        self.assertRaisesRegex(pbcnf.NoLibrary, "has the interface 2, and this module 1", _native._judge_interface, Other())
 
 
 class Threads(unittest.TestCase):
@@ -131,4 +205,4 @@ def load_tests(loader, tests, pattern):
 
 
 if __name__ == "__main__":
-    unittest.main(argv=[sys.argv[0], "-q"])
+    unittest.main()

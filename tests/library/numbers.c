@@ -55,8 +55,17 @@ static void try_reason(const struct constant *reason, pbcnf_refusal r, const cha
   judge(says(r, due), "the words of its comment", reason->name, (long)reason->number);
 }
 
+/* The library is of the header's version and interface. */
+static void try_version(void) {
+  unsigned major, minor, patch;
+  judge(sscanf(PBCNF_VERSION, "%u.%u.%u", &major, &minor, &patch) == 3 && pbcnf_version() == (major << 16 | minor << 8 | patch),
+        "the header's version", "version", (long)pbcnf_version());
+  judge(pbcnf_abi() == PBCNF_ABI, "the header's interface", "abi", (long)pbcnf_abi());
+}
+
 int main(void) {
   char due[200];
+  try_version();
   for (size_t i = 0; i < COUNT(expected); i++) {
     const char *comment = expected[i].comment, *name;
     pbcnf_refusal r = {3, 7, 0, PBCNF_REFUSED, 0, expected[i].number, 0, 0, 0};

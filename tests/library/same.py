@@ -63,6 +63,10 @@ def words_of(chosen, at_most):
     return words
 
 
+def without_table(chosen):
+    return {name: value for name, value in chosen.items() if name != "table"}
+
+
 def told(call, *given, **chosen):
     """What a call gives back, its status, and the line of its refusal."""
     try:
@@ -85,8 +89,8 @@ def hold_encoding(program, opb, chosen, at_most, what):
     proof, own, own_line = told(pbcnf.derive, opb, at_most=at_most, **chosen)
     judge((status, line) == (own, own_line), what, chosen, at_most, line, own_line)
     if "table" in chosen:
+        chosen = without_table(chosen)
         hold_bounds(status, said, line, opb, chosen, at_most, what)
-        chosen = {name: value for name, value in chosen.items() if name != "table"}
     program.write("a.wcnf", "")
     weighed, _, weighed_line = program.run("wcnf", "a.opb", "a.wcnf", *words_of(chosen, at_most))
     wcnf, own, own_line = told(pbcnf.wcnf, opb, at_most=at_most, **chosen)
@@ -239,7 +243,7 @@ def hold_drawn(program, draws, count):
 def hold_constraints(draws, count):
     """Constraints one at a time, each behind the one before, are the clauses of the problem of them all."""
     for number in range(count):
-        chosen, first, integers, text = draws.options(), 10, [], "* #variable= 9\n"
+        chosen, first, integers, text = without_table(draws.options()), 10, [], "* #variable= 9\n"
         what = "constraints %d" % number
         for _ in range(draws.random.randint(1, 4)):
             (terms, relation, right), statement = draws.one()

@@ -1,0 +1,126 @@
+/* Each call of pbcnf.hpp once, with rooms that have to grow, empty texts, and refusals. */
+#include <pbcnf.hpp>
+
+#include <cstdio>
+#include <string>
+#include <vector>
+
+namespace {
+
+int passes, failures;
+
+void judge(bool holds, const char *what) {
+  holds ? passes++ : failures++;
+  if (!holds) std::printf("%s\n", what);
+}
+
+const std::string opb = "min: +3 rain -2 sun ;\n+2 rain +1 sun +1 x1 x2 >= 2 ;\n+1 rain +1 x1 = 1 ;\n";
+
+/* Whether a call is refused so. */
+template <typename Call>
+bool refuses(Call call, int status, const std::string &words) {
+  try {
+    call();
+  } catch (const pbcnf::Error &error) {
+    return error.status() == status && error.refusal().status == static_cast<std::uint32_t>(status) && error.what() == words;
+  }
+  return false;
+}
+
+/* A solver that keeps what it is handed. */
+struct Kept {
+  std::vector<std::int32_t> integers;
+  void add(int integer) { integers.push_back(integer); }
+};
+
+void try_clauses() {
+  pbcnf::Options options;
+  options.general = pbcnf::General::tree;
+  options.equal = pbcnf::Equal::joint;
+  const pbcnf::Encoding encoding = pbcnf::encode(opb, options);
+  std::string text = "p cnf " + std::to_string(encoding.variables()) + " " + std::to_string(encoding.size()) + "\n";
+  std::size_t clauses = 0;
+  for (pbcnf::Clause clause : encoding) {
+    for (std::int32_t literal : clause) text += std::to_string(literal) + " ";
+    text += "0\n";
+    clauses++;
+  }
+  judge(text == pbcnf::dimacs(opb, options) && clauses == encoding.size(), "the clauses are those of the text");
+  judge(encoding.original() == 4 && encoding.next_free() == encoding.variables() + 1, "its numbers");
+  Kept kept;
+  encoding.add_to(kept);
+  judge(kept.integers == encoding.integers(), "a solver is handed all integers");
+  const std::vector<std::int32_t> empty_clause = {0};
+  judge(pbcnf::encode("").integers().empty() && pbcnf::encode("+1 x1 >= 2 ;").integers() == empty_clause, "no clause, and an empty one");
+  judge((*pbcnf::encode("+1 x1 >= 2 ;").begin()).empty(), "an empty clause has no literal");
+  judge(pbcnf::encode(opb, {}, -1).integers() == pbcnf::encode(opb + "+3 rain -2 sun <= -1 ;").integers(), "a bound is a statement more");
+  judge(pbcnf::wcnf("min: +3 x1 -2 x2 ;\n+1 x1 +1 x2 >= 1 ;\n") == "c offset -2\nh 1 2 0\n3 -1 0\n2 2 0\n", "weights");
+  const std::vector<pbcnf_row> rows = pbcnf::bounds("min: +3 x1 -2 x2 ;");
+  judge(rows.size() == 3 && rows[2].low == 3 && rows[2].high == 0 && rows[2].literal == 5, "bounds");
+}
+
+void try_models() {
+  const std::string said = "o 1\ns SATISFIABLE\nv -x1 -x2 rain sun\n";
+  judge(pbcnf::decode(opb, std::vector<std::int32_t>{-1, -2, 3, 4, 0}) == said, "literals are decoded");
+  judge(pbcnf::decode(opb, "s SATISFIABLE\nv -1 -2 3 4 0\n") == said, "a text is decoded");
+  judge(pbcnf::names(opb) == "3 rain\n4 sun\n" && pbcnf::names("").empty(), "names");
+  judge(refuses([] { pbcnf::decode(opb, std::vector<std::int32_t>{3, 4}, 0); }, PBCNF_NO_SOLUTION, "pbcnf: statement 3 is violated"),
+        "a statement is violated");
+  judge(refuses([] { pbcnf::decode(opb, "s UNSATISFIABLE\n"); }, PBCNF_NO_MODEL, "pbcnf: no model"), "no model");
+}
+
+void try_judgements() {
+  const std::string unsolved = "+1 x1 >= 1 ;\n+1 ~x1 >= 1 ;\n", cnf = pbcnf::dimacs(unsolved), proof = pbcnf::derive(unsolved);
+  pbcnf::check(unsolved, cnf, proof);
+  pbcnf::refute(unsolved, cnf, proof, "3 0 1 2 0\n");
+  judge(refuses([&] { pbcnf::check(unsolved, "p cnf 1 2\n1 0\n1 0\n", proof); }, PBCNF_REJECTED, "pbcnf: PROOF line 6: not implied by 4"),
+        "a step is rejected");
+  judge(refuses([&] { pbcnf::refute(unsolved, cnf, proof, ""); }, PBCNF_NOT_REFUTED, "pbcnf: LRAT line 1: no empty clause"), "not refuted");
+}
+
+void try_constraints() {
+  const std::vector<std::int32_t> due = {-1, 2, 0, -1, -3, 0, 2, -3, 0};
+  const pbcnf::Encoding one = pbcnf::constraint({{1, 1, 1}, {1, -2, 3}, pbcnf::Relation::at_most, 1}, 10);
+  judge(one.integers() == due && one.original() == 9 && one.next_free() == 10, "one constraint");
+  judge(pbcnf::constraint({{}, {}, pbcnf::Relation::at_least, 1}, 1).size() == 1, "a sum of no terms");
+  const pbcnf::Number great(0, 1);
+  judge(pbcnf::constraint({{great, great}, {1, 2}, pbcnf::Relation::at_least, great}, 3).size() == 1, "numbers of 128 bits");
+  judge(pbcnf::constraint({{-1, -1}, {1, 2}, pbcnf::Relation::at_least, -1}, 3).size() == 1, "numbers below 0");
+  pbcnf::Constraint heavy = {{}, {}, pbcnf::Relation::at_most, 900};
+  std::string text;
+  for (std::int32_t var = 1; var <= 40; var++) {
+    heavy.coefficients.push_back(3 * var % 101 + 1);
+    heavy.literals.push_back(var);
+    text += "+" + std::to_string(3 * var % 101 + 1) + " x" + std::to_string(var) + " ";
+  }
+  text += "<= 900 ;";
+  const pbcnf::Encoding grown = pbcnf::constraint(heavy, 41);
+  judge(grown.integers().size() > 32 * 40 + 256 && grown.integers() == pbcnf::encode(text).integers(), "rooms that grow");
+  judge(pbcnf::derive_constraint(heavy, 41) == pbcnf::derive(text), "and of derivations");
+}
+
+void try_refusals() {
+  judge(refuses([] { pbcnf::encode("+1 x1 >= ;"); }, PBCNF_REFUSED, "pbcnf: OPB 1:10: expected an integer"), "a place");
+  pbcnf::Options none;
+  none.budget = 0;
+  bool is_usage = false;
+  try {
+    pbcnf::encode("", none);
+  } catch (const std::runtime_error &error) {
+    is_usage = dynamic_cast<const pbcnf::Error &>(error).status() == PBCNF_USAGE;
+  }
+  judge(is_usage, "a usage");
+  judge(refuses([] { pbcnf::encode("+1 x2147483648 >= 1 ;"); }, PBCNF_LIMIT, "pbcnf: OPB 1:4: limit variables"), "a limit");
+}
+
+}  // namespace
+
+int main() {
+  try_clauses();
+  try_models();
+  try_judgements();
+  try_constraints();
+  try_refusals();
+  std::printf("%d passed, %d failed\n", passes, failures);
+  return failures > 0;
+}
