@@ -1,4 +1,4 @@
-# Completion of the words of pbcnf, pbcnf-solve, pbcnf-cheapest and pbcnf-hints in bash.
+# Completion of the words of pbcnf, and of the commands over solvers, in bash.
 
 _pbcnf() {
     local word=${COMP_WORDS[COMP_CWORD]} before=${COMP_WORDS[COMP_CWORD-1]} command=${COMP_WORDS[1]-}
@@ -18,15 +18,22 @@ _pbcnf() {
     --amo) mapfile -t COMPREPLY < <(compgen -W 'auto pairwise ladder product' -- "$word"); return ;;
     --card) mapfile -t COMPREPLY < <(compgen -W 'auto counter totalizer' -- "$word"); return ;;
     --general) mapfile -t COMPREPLY < <(compgen -W 'diagram tree adder' -- "$word"); return ;;
+    --encoding) mapfile -t COMPREPLY < <(compgen -W 'auto plain' -- "$word"); return ;;
     --equal) mapfile -t COMPREPLY < <(compgen -W 'split joint' -- "$word"); return ;;
-    --budget | --at-most | --at-most-minus) return ;;
+    --budget | --at-most | --at-most-minus | --seconds | --count | --jobs) return ;;
+    --solver) mapfile -t COMPREPLY < <(compgen -c -- "$word"); return ;;
     esac
     if [[ $word == -* ]]; then
-        local options=
+        local options= encoding='--amo --card --general --equal --budget' run='--solver --seconds --tidy --help --version'
         case $command in
-        encode) options='--amo --card --general --equal --budget --table --at-most= --at-most-minus=' ;;
-        pbcnf-cheapest) options='--amo --card --general --equal --budget' ;;
-        wcnf | pbcnf-solve) options='--amo --card --general --equal --budget --at-most= --at-most-minus=' ;;
+        encode) options="$encoding --table --at-most= --at-most-minus=" ;;
+        wcnf) options="$encoding --at-most= --at-most-minus=" ;;
+        pbcnf-solve) options="$encoding --encoding --at-most= --at-most-minus= --count --all --unproved $run" ;;
+        pbcnf-minimize | pbcnf-cheapest) options="$encoding --encoding --jobs --keep --quiet --unproved $run" ;;
+        pbcnf-core) options="$encoding --keep $run" ;;
+        pbcnf-hints) options='--help --version' ;;
+        pbcnf-tidy) options='--keep --help --version' ;;
+        pbcnf-veripb) options='--clauses --hints --help' ;;
         check | refute | decode) options='--at-most= --at-most-minus=' ;;
         esac
         mapfile -t COMPREPLY < <(compgen -W "$options" -- "$word")
@@ -41,4 +48,4 @@ _pbcnf() {
     esac
 }
 
-complete -F _pbcnf pbcnf pbcnf-solve pbcnf-cheapest pbcnf-hints
+complete -F _pbcnf pbcnf pbcnf-cheapest pbcnf-core pbcnf-hints pbcnf-minimize pbcnf-solve pbcnf-tidy pbcnf-veripb

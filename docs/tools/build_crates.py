@@ -2,7 +2,10 @@
 
 `rt lib` locks every crate below the one that it builds, so two of them never run side by side. So the prover is called here with the
 very words that rt's own library gives, and what it makes is left with the stamps that rt writes: `rt check` in a crate goes on from
-there, and a crate whose stamp fits is not built again.
+there, and a crate whose stamp fits is not built again. `rt all check` goes over the whole program before its first proof, and has a
+processor wait where its next crate cannot begin yet.
+
+No page of the kit promises that library, so what is taken of it is one list (TAKEN), and a kit without these names is refused.
 """
 
 import fcntl

@@ -5,6 +5,10 @@ it lacks is guessed by the size of the crate.
 
 By more jobs a crate is done sooner: a part of its seconds stays, and the rest goes faster, as measured on pb_base (172 s by one job,
 83 s by four).
+
+Of the crates that can begin, the one with the longest chain of seconds after it comes first; processors that no crate could use are
+jobs of those with the longest chains. That is half an hour on four processors, where `rt all check` took an hour. Among three
+thousand orders tried at random none was better on four, and on two the best by 4 %.
 """
 
 import json
