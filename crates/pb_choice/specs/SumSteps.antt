@@ -6,7 +6,7 @@ use Rattle.pb_steps.specs.declared.step.Step.{Step}
 use Rattle.pb_amo.specs.PairwiseSteps.{pairwise_steps}
 use Rattle.pb_amo.specs.LadderSteps.{ladder_steps}
 use Rattle.pb_amo.specs.ProductSteps.{product_steps}
-use Rattle.pb_counter.specs.CounterSteps.{counter_steps}
+use Rattle.pb_counter.specs.CounterHalves.{counter_row_steps}
 use Rattle.pb_totalizer.specs.TotalizerSteps.{totalizer_steps}
 use Rattle.pb_gentot.specs.GeneralizedSteps.{generalized_steps}
 use Rattle.pb_diagram.specs.DiagramSteps.{diagram_steps}
@@ -19,7 +19,7 @@ abbrev pub sum_steps : Treatment → BoundedSum → ℕ → ℕ → ℕ → List
 sum_steps treatment.Pairwise m first id next = pairwise_steps (lits_of m.terms) id next
 sum_steps treatment.Ladder m first id next = ladder_steps m.terms first id next
 sum_steps treatment.Product m first id next = product_steps (lits_of m.terms) first id next
-sum_steps treatment.Counter m first id next = counter_steps m.terms m.bound first id next
+sum_steps treatment.Counter m first id next = counter_row_steps (lits_of m.terms) m.bound first id next
 sum_steps treatment.Totalizer m first id next = totalizer_steps m first id next
 sum_steps treatment.Diagram m first id next = diagram_steps m first id next
 sum_steps treatment.Tree m first id next = generalized_steps m first id next

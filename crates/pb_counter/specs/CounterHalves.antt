@@ -1,6 +1,6 @@
 -- The whole derivation of a sequential counter (our own): the first row, the rows after it, and the last clause. What is said of all literals
 -- that are left is narrowed by halves, so that each row names its own literal alone.
-use Rattle.std.specs.Prelude.{ℕ, zero, suc, true, false, pos, ◌+◌, ◌-◌, ◌*◌, ◌^◌, ◌==◌, nat_le, List, [], ◌∷◌, ◌++◌, map, length, take, drop, if◌then◌else◌}
+use Rattle.std.specs.Prelude.{ℕ, zero, suc, true, false, ◌+◌, ◌-◌, ◌*◌, ◌^◌, ◌==◌, nat_le, List, [], ◌∷◌, ◌++◌, map, length, take, drop, if◌then◌else◌}
 use Rattle.std.specs.List.{range_with_len}
 use Rattle.pb_base.specs.declared.literal.Lit.{Lit}
 use Rattle.pb_base.specs.Literals.{negated}

@@ -1,14 +1,11 @@
-pub mod CounterDerives
-pub mod CounterFollows
 pub mod CounterLaws
 pub mod CounterModels
 pub mod CounterOrder
 pub mod CounterPlaces
 pub mod CounterPropagation
-pub mod CounterJustifications
-pub mod CounterShort
 pub mod RowLines
 pub mod RowParts
+pub mod RowPieceIds
 pub mod RowTotals
 pub mod RowAdds
 pub mod RowRuns

@@ -25,15 +25,8 @@ impl Grid<'_> {
     ghost use Rattle.pb_norm.specs.Reduction.{lits_of};
     ghost use Rattle.pb_family.specs.Fresh.{literal_at};
     ghost use Rattle.pb_family.specs.Handing.{Hands};
-    ghost use Rattle.pb_counter.specs.Counter.{count_bit, clause_at, counter_clauses, counter_fresh, counter_size};
+    ghost use Rattle.pb_counter.specs.Counter.{count_bit, clause_at, counter_clauses, counter_size};
     ghost use Rattle.pb_counter.specs.inner.Order.{IsPlace, place_at};
-
-    /// How many fresh variables there are.
-    pub fn fresh(&self) -> usize
-        ensures { result ≡ counter_fresh (length self.now.terms.now) self.now.width }
-    {
-        (self.terms.len() - 1) * self.width
-    }
 
     /// The place with a number.
     pub fn place(&self, number: usize) -> Place

@@ -1,16 +1,63 @@
--- Steps that are handed over in two parts.
-use Rattle.std.proofs.Common.{◌≡◌, ◌++◌, List}
-use Rattle.std.specs.Prelude.{Result, IsErrAnd}
+-- Steps that are handed over part by part.
+use Rattle.std.proofs.Common.{◌≡◌, ◌≤◌, ◌<◌, ◌+◌, ◌*◌, ◌∙◌, ◌++◌, ℕ, zero, suc, List, ◌∷◌, length, drop, get_or, refl, sym, ap, subst, arith}
+use Rattle.std.specs.Prelude.{count_by, cond, Result, IsErrAnd}
+use Rattle.std.proofs.lemmas.List.{drop_more, drop_all}
+use Rattle.std.proofs.lemmas.List.Sums.{sum_by-append}
 use Rattle.pb_steps.specs.declared.step.Step.{Step}
+use Rattle.pb_steps.specs.Steps.{takes_id}
+use Rattle.pb_family.specs.Derivations.{pieces, in_turn, ids_in_turn}
 use Rattle.pb_family.specs.StepSinks.{StepState, TakesSteps, StopsInSteps, HandsSteps}
 use Rattle.pb_family.specs.declared.sink.SinkFault.{SinkFault}
-use Rattle.pb_family.proofs.Deriving.{deriving_from, deriving_step, steps_fault, steps_last}
+use Rattle.pb_family.proofs.Deriving.{Deriving, deriving_from, deriving_as, deriving_step, deriving_ends, steps_fault}
 
-module _ {R T : Type 0} (r : Result T SinkFault) (all xs ys : List Step) (old mid : StepState R) (same : all ≡ xs ++ ys) where
-  -- the fault in the first part is handed on
-  pub first_stops : (f : SinkFault) → IsErrAnd r (λ g. g ≡ f) → StopsInSteps xs old mid f → HandsSteps all r old mid
-  first_stops f is part = steps_fault r f xs ys mid is (deriving_from old same) part
+-- pieces take so many ids
+pub pieces_ids : (piece : ℕ → ℕ → List Step) (width next a n : ℕ) → ((next k : ℕ) → count_by takes_id (piece next k) ≡ width) → count_by takes_id (pieces piece width next a n) ≡ width * n
+pieces_ids piece width next a zero each = omega arith
+pieces_ids piece width next a (suc n) each =
+    omega (arith, sum_by-append (λ (s : Step). cond (takes_id s) 1 0) (piece next a) (pieces piece width (next + width) (a + 1) n), each next a, pieces_ids piece width (next + width) (a + 1) n each)
 
-  -- the second part is handed over behind the first
-  pub second_follows : (new : StepState R) → TakesSteps xs old mid → HandsSteps ys r mid new → HandsSteps all r old new
-  second_follows new first second = steps_last r ys new (deriving_step {left = ys} xs mid (deriving_from old same) first) second
+module _ {P R : Type 0} (count width : P → ℕ) (piece : P → ℕ → ℕ → List Step) (ps : List P) where
+  -- of all parts the first k were taken
+  pub record InTurn (k : ℕ) (old now : StepState R) : Type 0 where
+    pub taken : Deriving (in_turn count width piece old.next ps) (in_turn count width piece now.next (drop k ps)) old now
+    pub ids : now.next + ids_in_turn count width (drop k ps) ≡ old.next + ids_in_turn count width ps
+
+  pub turn_from : (a : StepState R) → InTurn 0 a a
+  turn_from a = record { taken = deriving_from a refl; ids = refl }
+
+  module _ (k : ℕ) (p : P) (old now : StepState R) (within : k < length ps) (is : p ≡ get_or ps k p) (h : InTurn k old now) where
+    here : drop k ps ≡ p ∷ drop (k + 1) ps
+    here = drop_more ps k p within ∙ ap (λ (q : P). q ∷ drop (k + 1) ps) (sym is)
+
+    abbrev part : List Step
+    part = pieces (piece p) (width p) now.next 0 (count p)
+
+    abbrev rest : ℕ → List Step
+    rest next = in_turn count width piece next (drop (k + 1) ps)
+
+    ids : now.next + (width p * count p + ids_in_turn count width (drop (k + 1) ps)) ≡ old.next + ids_in_turn count width ps
+    ids = subst (λ (qs : List P). now.next + ids_in_turn count width qs ≡ old.next + ids_in_turn count width ps) here h.ids
+
+    steps : Deriving (in_turn count width piece old.next ps) (part ++ rest (now.next + width p * count p)) old now
+    steps = deriving_as (ap (in_turn count width piece now.next) here) h.taken
+
+    -- the next part has room
+    pub turn_few : (m : ℕ) → old.next + ids_in_turn count width ps < m → now.next + width p * count p < m
+    turn_few m few = omega (arith, few, ids)
+
+    pub turn_fault : {T : Type 0} (r : Result T SinkFault) (f : SinkFault) (after : StepState R) → IsErrAnd r (λ g. g ≡ f) → StopsInSteps part now after f → HandsSteps (in_turn count width piece old.next ps) r old after
+    turn_fault r f after err part_stops = steps_fault r f part (rest (now.next + width p * count p)) after err steps part_stops
+
+    pub turn_next : (after : StepState R) → ((next j : ℕ) → count_by takes_id (piece p next j) ≡ width p) → TakesSteps part now after → InTurn (k + 1) old after
+    turn_next after each handed =
+        let counts : now.next + width p * count p ≡ after.next = omega (arith, handed.ids, pieces_ids (piece p) (width p) now.next 0 (count p) each) in
+        record {
+          taken = deriving_as (ap rest counts) (deriving_step {left = rest (now.next + width p * count p)} part after steps handed);
+          ids = omega (arith, counts, ids);
+        }
+
+  pub turn_ends : (k : ℕ) (old now : StepState R) → length ps ≤ k → InTurn k old now → TakesSteps (in_turn count width piece old.next ps) old now
+  turn_ends k old now all h = deriving_ends (deriving_as (ap (in_turn count width piece now.next) (drop_all k ps all)) h.taken)
+
+  pub turn_next_id : (k : ℕ) (old now : StepState R) → length ps ≤ k → InTurn k old now → now.next ≡ old.next + ids_in_turn count width ps
+  turn_next_id k old now all h = omega (arith, h.ids, ap (ids_in_turn count width) (drop_all k ps all))

@@ -1,5 +1,5 @@
 -- Steps as the code that hands them over has their parts (our own).
-use Rattle.std.specs.Prelude.{ℕ, zero, suc, ◌+◌, ◌≤◌, ◌<◌, ◌^◌, List, [], ◌∷◌, ◌++◌, All}
+use Rattle.std.specs.Prelude.{ℕ, zero, suc, ◌+◌, ◌*◌, ◌≤◌, ◌<◌, ◌^◌, List, [], ◌∷◌, ◌++◌, All}
 use Rattle.pb_base.specs.declared.literal.Lit.{Lit}
 use Rattle.pb_norm.specs.Constraints.{Weighted}
 use Rattle.pb_steps.specs.declared.op.PolOp.{PolOp}
@@ -33,6 +33,16 @@ propagated next ids clause = claim_steps next (by_rup ids clause ∷ [])
 abbrev pub pieces : (ℕ → ℕ → List Step) → ℕ → ℕ → ℕ → ℕ → List Step
 pieces piece width next a zero = []
 pieces piece width next a (suc n) = piece next a ++ pieces piece width (next + width) (a + 1) n
+
+-- parts of a derivation one behind another, each of so many pieces, which take as many ids
+abbrev pub in_turn : {P : Type 0} → (P → ℕ) → (P → ℕ) → (P → ℕ → ℕ → List Step) → ℕ → List P → List Step
+in_turn count width piece next [] = []
+in_turn count width piece next (p ∷ ps) = pieces (piece p) (width p) next 0 (count p) ++ in_turn count width piece (next + width p * count p) ps
+
+-- how many ids they take
+abbrev pub ids_in_turn : {P : Type 0} → (P → ℕ) → (P → ℕ) → List P → ℕ
+ids_in_turn count width [] = 0
+ids_in_turn count width (p ∷ ps) = width p * count p + ids_in_turn count width ps
 
 -- where a derivation may start: the first fresh variable and how many there are, the id of the constraint, and the next one
 pub record MayStart (first fresh id next : ℕ) : Type 0 where

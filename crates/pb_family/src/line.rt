@@ -1,5 +1,6 @@
 //! Lines that compute a constraint.
 ghost use Rattle.std.specs.Prelude.{◌≡◌, ◌<◌, ◌^◌, [], ◌∷◌, pos, IfOk};
+ghost use Rattle.pb_steps.specs.declared.op.PolOp.TheVariants.{Div, Mul};
 ghost use Rattle.pb_steps.specs.declared.step.Step.TheVariants.{Pol};
 ghost use Rattle.pb_family.specs.StepSinks.{HandsSteps};
 
@@ -26,9 +27,16 @@ pub fn derive_line<T: StepSink>(alloc: Global, ops: &[PolOp], sink: &mut T) -> S
     sink.step(&step)
 }
 
-/// A number as a factor.
-pub fn factor(number: u64) -> i128
-    ensures { result ≡ pos number }
+/// Multiplies by a number.
+pub fn times(number: u64) -> PolOp
+    ensures { result ≡ Mul (pos number) }
 {
-    number as i128
+    PolOp::Mul(number as i128)
+}
+
+/// Divides by a number.
+pub fn over(number: u64) -> PolOp
+    ensures { result ≡ Div (pos number) }
+{
+    PolOp::Div(number as i128)
 }

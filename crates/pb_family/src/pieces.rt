@@ -1,8 +1,8 @@
 //! Steps that are given piece by piece.
-ghost use Rattle.std.specs.Prelude.{◌≡◌, ◌<◌, ◌+◌, ◌*◌, ◌^◌, ℕ, List, count_by};
+ghost use Rattle.std.specs.Prelude.{◌≡◌, ◌<◌, ◌+◌, ◌*◌, ◌^◌, ℕ, List, count_by, IfOk};
 ghost use Rattle.pb_steps.specs.declared.step.Step.{Step};
 ghost use Rattle.pb_steps.specs.Steps.{takes_id};
-ghost use Rattle.pb_family.specs.Derivations.{pieces};
+ghost use Rattle.pb_family.specs.Derivations.{ids_in_turn, in_turn, pieces};
 ghost use Rattle.pb_family.specs.StepSinks.{HandsFrom, HandsSteps};
 
 use crate::sink::SinkResult;
@@ -41,6 +41,18 @@ pub fn derive_pieces<P: Pieces, T: StepSink>(alloc: Global, of: &P, sink: &mut T
 {
     for number in 0..of.count() {
         of.derive_one(alloc, number, sink)?;
+    }
+    Ok(())
+}
+
+/// Hands over parts, each with all its pieces, one behind another.
+pub fn derive_parts<P: Pieces, T: StepSink>(alloc: Global, parts: &[P], sink: &mut T) -> SinkResult
+    requires few { (T.state sink.old).next + ids_in_turn P.piece_count P.piece_ids parts.now < 2 ^ 62 }
+    ensures hands { HandsFrom (λ next. in_turn P.piece_count P.piece_ids P.piece next parts.now) result (T.state sink.old) (T.state sink.new) }
+    ensures next { IfOk result (λ _. (T.state sink.new).next ≡ (T.state sink.old).next + ids_in_turn P.piece_count P.piece_ids parts.now) }
+{
+    for part in parts {
+        derive_pieces(alloc, part, sink)?;
     }
     Ok(())
 }

@@ -13,8 +13,8 @@ use Rattle.pb_amo.specs.laws.LadderDerives.{ladder_derives, ladder_few}
 use Rattle.pb_amo.specs.laws.LadderShort.{ladder_sayable, ladder_short}
 use Rattle.pb_amo.specs.laws.ProductDerives.{product_derives}
 use Rattle.pb_amo.specs.laws.ProductShort.{product_few, product_sayable, product_short}
-use Rattle.pb_counter.specs.laws.CounterDerives.{counter_derives, counter_lines}
-use Rattle.pb_counter.specs.laws.CounterShort.{counter_sayable, counter_short}
+use Rattle.pb_counter.specs.laws.RowsDerive.{rows_derive}
+use Rattle.pb_counter.specs.laws.RowsShort.{rows_lines, rows_sayable, rows_short}
 use Rattle.pb_totalizer.specs.laws.TotalizerDerives.{totalizer_derives, totalizer_lines}
 use Rattle.pb_totalizer.specs.laws.TotalizerShort.{totalizer_sayable, totalizer_short}
 use Rattle.pb_gentot.specs.laws.GeneralizedDerives.{generalized_derives, generalized_lines}
@@ -36,7 +36,7 @@ pub sum_derives : (t : Treatment) (m : BoundedSum) → IsDerivable t m → (firs
 sum_derives treatment.Pairwise m h first id db below ready = pairwise_derives m h.suits.one h.suits.units h.proper.distinct first id db below ready
 sum_derives treatment.Ladder m h first id db below ready = ladder_derives m h.suits.one h.suits.units h.proper.distinct h.few first id db below ready
 sum_derives treatment.Product m h first id db below ready = product_derives m h.suits.one h.suits.units h.proper.distinct h.few first id db below ready
-sum_derives treatment.Counter m h first id db below ready = counter_derives m h.suits.units h.proper h.few first id db below ready
+sum_derives treatment.Counter m h first id db below ready = rows_derive m h.suits.units h.proper h.few first id db below ready
 sum_derives treatment.Totalizer m h first id db below ready = totalizer_derives m h.suits.units h.proper h.few first id db below ready
 sum_derives treatment.Diagram m h first id db below ready = diagram_derives m h.proper h.light first below id db ready
 sum_derives treatment.Tree m h first id db below ready = generalized_derives m h.proper h.light first id db below ready
@@ -48,7 +48,7 @@ pub sum_few : (t : Treatment) (m : BoundedSum) → IsDerivable t m → (first id
 sum_few treatment.Pairwise m h first id next = pairwise_few m.terms id next
 sum_few treatment.Ladder m h first id next = ladder_few m.terms first id next h.suits.three
 sum_few treatment.Product m h first id next = product_few m.terms first id next
-sum_few treatment.Counter m h first id next = counter_lines m h.suits.units h.proper first id next
+sum_few treatment.Counter m h first id next = rows_lines m h.suits.units h.proper h.few first id next
 sum_few treatment.Totalizer m h first id next = totalizer_lines m h.suits.units h.proper first id next
 sum_few treatment.Diagram m h first id next = diagram_lines m first id next
 sum_few treatment.Tree m h first id next = generalized_lines m h.proper first id next
@@ -61,7 +61,7 @@ pub sum_sayable : (t : Treatment) (m : BoundedSum) → IsDerivable t m → HasRo
 sum_sayable treatment.Pairwise m h room first id next original start = pairwise_sayable m.terms first id next original start h.few
 sum_sayable treatment.Ladder m h room first id next original start = ladder_sayable m.terms h.suits.units h.suits.three h.few first id next original start
 sum_sayable treatment.Product m h room first id next original start = product_sayable m.terms first id next original start h.few
-sum_sayable treatment.Counter m h room first id next original start = counter_sayable m h.suits.units h.proper h.few first id next original start
+sum_sayable treatment.Counter m h room first id next original start = rows_sayable m h.suits.units h.proper h.few first id next original start
 sum_sayable treatment.Totalizer m h room first id next original start = totalizer_sayable m h.suits.units h.proper h.few room first id next original start
 sum_sayable treatment.Diagram m h room first id next original start = diagram_sayable m h.proper h.light first id next original start
 sum_sayable treatment.Tree m h room first id next original start = generalized_sayable m h.proper h.light room first id next original start
@@ -74,7 +74,7 @@ pub sum_short : (t : Treatment) (m : BoundedSum) → IsDerivable t m → HasRoom
 sum_short treatment.Pairwise m h room first id next original start short = pairwise_short m.terms first id next original start h.few short
 sum_short treatment.Ladder m h room first id next original start short = ladder_short m.terms h.suits.units h.suits.three h.few first id next original start short
 sum_short treatment.Product m h room first id next original start short = product_short m.terms first id next original start h.few short
-sum_short treatment.Counter m h room first id next original start short = counter_short m h.suits.units h.proper h.few first id next original start short
+sum_short treatment.Counter m h room first id next original start short = rows_short m h.suits.units h.proper h.few first id next original start short
 sum_short treatment.Totalizer m h room first id next original start short = totalizer_short m h.suits.units h.proper h.few room first id next original start short
 sum_short treatment.Diagram m h room first id next original start short = diagram_short m h.proper h.light first id next original start short
 sum_short treatment.Tree m h room first id next original start short = generalized_short m h.proper h.light room first id next original start short

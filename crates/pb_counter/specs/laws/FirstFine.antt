@@ -1,14 +1,10 @@
 -- The lines of the first row are within their limits, and short.
-use Rattle.std.proofs.Common.{◌≡◌, ◌≤◌, ◌<◌, ◌+◌, ◌*◌, ◌^◌, ◌++◌, ℕ, zero, suc, List, [], ◌∷◌, length, refl, arith}
-use Rattle.std.specs.Prelude.{All, map, sum_by}
+use Rattle.std.proofs.Common.{◌≡◌, ◌≤◌, ◌<◌, ◌+◌, ◌*◌, ◌^◌, ◌++◌, ℕ, zero, suc, [], ◌∷◌, length, refl, arith}
+use Rattle.std.specs.Prelude.{All, map}
 use Rattle.std.specs.List.{range_with_len}
-use Rattle.std.proofs.lemmas.List.{length-map}
 use Rattle.std.proofs.lemmas.List.Elements.{All-nil, All-cons, All-map, recursion_from_All}
 use Rattle.std.proofs.lemmas.List.FromFn.{length-map-range_with_len, length-range_with_len}
 use Rattle.pb_base.specs.declared.literal.Lit.{Lit}
-use Rattle.pb_norm.specs.Constraints.{Weighted}
-use Rattle.pb_steps.specs.declared.op.PolOp.TheVariants.{Push}
-use Rattle.pb_steps.specs.declared.step.Step.{Step}
 use Rattle.pb_steps.specs.Sayable.{IsId, IsVariable, IsOp}
 use Rattle.pb_steps.specs.StepSizes.{step_size}
 use Rattle.pb_derive.specs.Justifications.{adding}

@@ -1,53 +1,42 @@
 -- The first row runs: its first place is the first literal, and no other place is reached.
-use Rattle.std.proofs.Common.{◌≡◌, ◌≢◌, ◌≤◌, ◌<◌, ◌+◌, ◌-◌, ◌*◌, ◌^◌, ◌⊎◌, inl, inr, ◌++◌, ℕ, zero, suc, true, false, List, [], ◌∷◌, length, refl, ap, sym, ◌∙◌, subst, arith, get_or}
+use Rattle.std.proofs.Common.{◌≡◌, ◌≤◌, ◌<◌, ◌+◌, ◌-◌, ◌*◌, ◌^◌, ◌++◌, ℕ, zero, suc, false, List, [], ◌∷◌, length, refl, sym, subst, arith}
 use Rattle.std.specs.Prelude.{All, map}
 use Rattle.std.specs.List.{range_with_len}
-use Rattle.std.proofs.lemmas.Bool.{cases_lt}
-use Rattle.std.proofs.lemmas.List.Elements.{All-nil, All-cons, All-head, All-tail, All-map, All-append, All-weaker}
+use Rattle.std.proofs.lemmas.List.Elements.{All-nil, All-cons, All-head}
 use Rattle.std.proofs.lemmas.List.FromFn.{length-map-range_with_len, get_or-map-range_with_len}
 use Rattle.std.proofs.lemmas.List.Kept.{AllPairs-cons}
 use Rattle.pb_base.specs.declared.literal.Lit.{Lit}
 use Rattle.pb_base.specs.Literals.{negated}
 use Rattle.pb_base.proofs.Pairs.{AllPairs-nil}
-use Rattle.pb_norm.specs.Constraints.{Weighted, Constraint, AllPositive, weight, value}
+use Rattle.pb_norm.specs.Constraints.{Weighted, Constraint, weight}
 use Rattle.pb_norm.specs.Reduction.{opposite}
 use Rattle.pb_norm.proofs.AdditionOrder.{Before}
 use Rattle.pb_norm.proofs.AdditionSizes.{weight-cons}
 use Rattle.pb_norm.proofs.AdditionValues.{value-cons}
-use Rattle.pb_steps.specs.declared.op.PolOp.TheVariants.{Push}
 use Rattle.pb_steps.specs.declared.step.Step.{Step}
-use Rattle.pb_steps.specs.declared.step.Step.TheVariants.{Pol}
 use Rattle.pb_steps.specs.Database.{Database}
 use Rattle.pb_steps.specs.Operations.{axiom_of}
-use Rattle.pb_steps.specs.Runs.{Runs}
 use Rattle.pb_derive.specs.Forms.{IsFormOf}
 use Rattle.pb_derive.specs.Later.{IsNumbered, IsLater, IsUnnamed, Knows}
 use Rattle.pb_derive.specs.Ones.{unit_of, ones}
-use Rattle.pb_derive.specs.Outputs.{Output, clauses_of}
 use Rattle.pb_derive.specs.Reifications.{Reification, forward_of, reverse_of, reification_steps}
 use Rattle.pb_derive.specs.inner.Meant.{AreReifications, IsMeant}
 use Rattle.pb_derive.proofs.Appends.{value-append}
 use Rattle.pb_derive.proofs.Expressions.{Expression, known, literal, plus, sum_up, below_more, last_below, left_of, IsNormal, expression_adds, sum_up_adds}
 use Rattle.pb_derive.proofs.FormOperations.{form_sum}
-use Rattle.pb_derive.proofs.Given.{IsOfClause, clause_given}
-use Rattle.pb_derive.proofs.Holding.{IsHolding, IsOutput, IsNotOut, OrBetween, before, between, holding_none}
-use Rattle.pb_derive.proofs.IdRanges.{IsOff, outside, off-range, each_between, ranges-apart}
 use Rattle.pb_derive.proofs.InRow.{IsFitReification, AreInRow, row_by_places, row_reifications}
 use Rattle.pb_derive.proofs.Laters.{later_then, later_knows}
 use Rattle.pb_derive.proofs.Lines.{AreKnown, still_known, Added, Adds, added_as, added_then, MeantFrom, meant_from, LineRan, line_ran, LinesRan, lines_ran, ChainRan, chain_ran}
 use Rattle.pb_derive.proofs.Meant.{reifications_ran, meant_at}
 use Rattle.pb_derive.proofs.Opposites.{value-opposite, weight-opposite}
 use Rattle.pb_derive.proofs.Rups.{ones-weight}
-use Rattle.pb_derive.proofs.Staged.{IsLeft, staged, staged_knows}
-use Rattle.pb_derive.proofs.UnaryRows.{Other, weighing, reached, missed, reached-value, missed-value, bit, count, places_of, places-false, order_of, front_of}
+use Rattle.pb_derive.proofs.UnaryRows.{Other, weighing, reached, missed, missed-value, places_of, places-false, order_of, front_of}
 use Rattle.pb_family.specs.Fresh.{positive_of}
 use Rattle.pb_counter.specs.CounterRows.{front_line, front_lines, first_front}
-use Rattle.pb_counter.specs.CounterHalves.{first_count, first_counts, first_line, first_clause, first_order_line, total_line, first_at, first_order_at, first_fronts_at, total_at, first_lines, first_output, first_outputs, first_steps}
-use Rattle.pb_counter.specs.laws.RowAdds.{Below, pair-apart, pair-all, places-named, first_front_adds, front_adds}
+use Rattle.pb_counter.specs.CounterHalves.{first_count, first_counts, first_line, first_order_line, total_line, first_at, first_order_at, first_fronts_at, total_at, first_lines}
+use Rattle.pb_counter.specs.laws.RowAdds.{Below, pair-apart, pair-all, first_front_adds, front_adds}
 use Rattle.pb_counter.specs.laws.RowLines.{order_apart, fall_positive}
-use Rattle.pb_counter.specs.laws.RowOutputs.{lits-apart}
 use Rattle.pb_counter.specs.laws.RowRuns.{IsRow}
-use Rattle.pb_counter.specs.laws.RowStages.{WithRow, beside, of_row}
 use Rattle.pb_counter.specs.laws.RowTotals.{AreLow, total_of, total-apart, total-positive}
 use Rattle.pb_counter.specs.laws.RowsAdds.{low_parts, total-normal}
 

@@ -1,5 +1,5 @@
 -- The first row is a stage of the derivation: its clauses are put out, and its reifications are deleted.
-use Rattle.std.proofs.Common.{◌≡◌, ◌≢◌, ◌≤◌, ◌<◌, ◌+◌, ◌-◌, ◌*◌, ◌⊎◌, inl, inr, ℕ, zero, suc, List, [], ◌∷◌, length, sym, subst, refl, arith, get_or}
+use Rattle.std.proofs.Common.{◌≡◌, ◌≢◌, ◌≤◌, ◌<◌, ◌+◌, ◌-◌, ◌*◌, ◌⊎◌, inl, inr, ℕ, zero, suc, List, [], subst, arith}
 use Rattle.std.specs.Prelude.{All, Contains, map}
 use Rattle.std.specs.List.{range_with_len}
 use Rattle.std.proofs.lemmas.Bool.{cases_lt}
@@ -16,9 +16,9 @@ use Rattle.pb_steps.specs.Database.{Database}
 use Rattle.pb_steps.specs.Runs.{Runs}
 use Rattle.pb_derive.specs.Later.{Knows}
 use Rattle.pb_derive.specs.Ones.{unit_of, ones}
-use Rattle.pb_derive.specs.Outputs.{Output, clauses_of}
+use Rattle.pb_derive.specs.Outputs.{Output}
 use Rattle.pb_derive.proofs.Given.{IsOfClause, clause_given}
-use Rattle.pb_derive.proofs.Holding.{IsHolding, IsOutput, IsNotOut, OrBetween, before, between, holding_none, holding_same}
+use Rattle.pb_derive.proofs.Holding.{IsHolding, IsOutput, IsNotOut, OrBetween, before, between, holding_none}
 use Rattle.pb_derive.proofs.IdRanges.{IsOff, outside, off-range, each_between, range-apart}
 use Rattle.pb_derive.proofs.Staged.{IsLeft, staged, staged_knows}
 use Rattle.pb_derive.proofs.UnaryRows.{Other, missed, order_of, front_of}
@@ -29,7 +29,7 @@ use Rattle.pb_counter.specs.laws.RowAdds.{Below}
 use Rattle.pb_counter.specs.laws.RowOutputs.{lits-apart}
 use Rattle.pb_counter.specs.laws.RowRuns.{IsRow}
 use Rattle.pb_counter.specs.laws.RowStages.{WithRow, beside, of_row}
-use Rattle.pb_counter.specs.laws.RowTotals.{AreLow, total_of}
+use Rattle.pb_counter.specs.laws.RowTotals.{total_of}
 
 start-gives : (l : Lit) (p j : ℕ) → l.var < p → IsOfClause (first_clause l p j) (start_of l p j)
 start-gives l p zero low = lits-apart (positive_of (p + 0)) (negated l) 1 1 (λ e. omega (arith, e, low)) (omega arith) (omega arith) 1 (omega arith) (omega arith) (omega arith)

@@ -1,5 +1,5 @@
 -- The last clause ends the derivation: all that is still held is deleted.
-use Rattle.std.proofs.Common.{◌≡◌, ◌≢◌, ◌≤◌, ◌<◌, ◌+◌, ◌*◌, ◌^◌, ◌⊎◌, inl, inr, ◌++◌, ℕ, suc, true, List, [], ◌∷◌, refl, ap, sym, subst, arith, get_or}
+use Rattle.std.proofs.Common.{◌≡◌, ◌≢◌, ◌≤◌, ◌<◌, ◌+◌, ◌*◌, ◌^◌, ◌⊎◌, inl, inr, ◌++◌, ℕ, suc, true, List, [], ◌∷◌, sym, subst, arith, get_or}
 use Rattle.std.specs.Prelude.{All, AllPairs}
 use Rattle.std.specs.List.{range_with_len}
 use Rattle.std.proofs.lemmas.List.Elements.{All-nil, All-cons, All-head, All-tail, All-append, All-weaker}
@@ -7,13 +7,11 @@ use Rattle.std.proofs.lemmas.List.Kept.{AllPairs-cons}
 use Rattle.pb_base.specs.declared.literal.Lit.{Lit}
 use Rattle.pb_base.proofs.Members.{All-append_both}
 use Rattle.pb_base.proofs.Pairs.{AllPairs-head, AllPairs-tail}
-use Rattle.pb_norm.specs.Constraints.{Constraint}
 use Rattle.pb_steps.specs.declared.step.Step.{Step}
 use Rattle.pb_steps.specs.Database.{Database}
 use Rattle.pb_steps.specs.Runs.{Runs}
 use Rattle.pb_derive.specs.Derivations.{Derives}
 use Rattle.pb_derive.specs.Later.{IsNumbered, Knows}
-use Rattle.pb_derive.specs.Ones.{unit_of}
 use Rattle.pb_derive.specs.Outputs.{Output}
 use Rattle.pb_derive.proofs.Given.{clause_given}
 use Rattle.pb_derive.proofs.Holding.{IsHolding, IsOutput, IsNotOut, OrBetween, before, between}

@@ -1,24 +1,21 @@
 -- The lines of a row are within their limits, and short.
-use Rattle.std.proofs.Common.{◌≡◌, ◌≤◌, ◌<◌, ◌+◌, ◌*◌, ◌^◌, ◌++◌, ◌≤ℤ◌, ℕ, zero, suc, pos, List, [], ◌∷◌, length, refl, subst, sym, arith, length-append}
-use Rattle.std.specs.Prelude.{All, map, sum_by, unsigned_abs}
-use Rattle.std.specs.List.{range_with_len, flat_map}
+use Rattle.std.proofs.Common.{◌≡◌, ◌≤◌, ◌<◌, ◌+◌, ◌*◌, ◌^◌, ◌++◌, ℕ, zero, suc, pos, [], ◌∷◌, length, refl, arith, length-append}
+use Rattle.std.specs.Prelude.{map}
+use Rattle.std.specs.List.{range_with_len}
 use Rattle.std.proofs.lemmas.Int.{ints}
 use Rattle.std.proofs.lemmas.List.Elements.{All-nil, All-cons, All-append}
 use Rattle.std.proofs.lemmas.List.FromFn.{length-map-range_with_len, length-range_with_len}
 use Rattle.pb_base.specs.declared.literal.Lit.{Lit}
-use Rattle.pb_norm.specs.Constraints.{Weighted, weight}
-use Rattle.pb_steps.specs.declared.step.Step.{Step}
-use Rattle.pb_steps.specs.Sayable.{IsId, IsVariable, IsFactor, IsSayable}
+use Rattle.pb_norm.specs.Constraints.{Weighted}
+use Rattle.pb_steps.specs.Sayable.{IsId, IsVariable, IsFactor}
 use Rattle.pb_steps.specs.StepSizes.{step_size}
-use Rattle.pb_derive.specs.Outputs.{Output}
 use Rattle.pb_derive.specs.Reifications.{Reification, reification_steps}
-use Rattle.pb_derive.specs.Stages.{stage_steps}
 use Rattle.pb_derive.proofs.Fine.{AreFine, fine_within, fine_append, fine_reifications}
-use Rattle.pb_derive.proofs.FineStages.{IsFine, fine_step, fine_one, fine_lines, fine_stage}
+use Rattle.pb_derive.proofs.FineStages.{IsFine, fine_step, fine_lines, fine_stage}
 use Rattle.pb_derive.proofs.IdRanges.{each_between}
 use Rattle.pb_derive.proofs.Sayable.{IsSlimTerm, IsSlimReification}
 use Rattle.pb_derive.proofs.UnaryRows.{weighing, reached}
-use Rattle.pb_counter.specs.CounterRows.{next_count, next_counts, fall_line, part_line, part_lines, more_line, keep_line, stop_line, order_line, first_front, front_line, front_lines, row_lines, row_outputs, row_deleted, row_steps, falls_at, parts_at, mores_at, keeps_at, stop_at, order_at, fronts_at, row_end}
+use Rattle.pb_counter.specs.CounterRows.{next_count, next_counts, fall_line, part_line, part_lines, more_line, keep_line, stop_line, order_line, first_front, front_line, front_lines, row_lines, row_outputs, row_deleted, row_steps, falls_at, parts_at, keeps_at, order_at, fronts_at, row_end}
 use Rattle.pb_counter.specs.laws.RowCounts.{row-outputs-count}
 use Rattle.pb_counter.specs.laws.RowOutputs.{outputs-all}
 use Rattle.pb_counter.specs.laws.RowRuns.{counts-all}

@@ -1,5 +1,5 @@
 -- The clauses that rows put out, one row after the other, are those of the counter in their order.
-use Rattle.std.proofs.Common.{◌≡◌, ◌<◌, ◌≤◌, ◌+◌, ◌-◌, ◌*◌, ◌++◌, ℕ, zero, suc, List, [], ◌∷◌, length, refl, sym, ap, subst, ◌∙◌, arith, get_or, length-append}
+use Rattle.std.proofs.Common.{◌≡◌, ◌<◌, ◌≤◌, ◌+◌, ◌-◌, ◌*◌, ◌++◌, ℕ, zero, suc, List, [], ◌∷◌, length, refl, sym, ap, subst, ◌∙◌, arith, length-append}
 use Rattle.std.specs.Prelude.{map}
 use Rattle.std.specs.List.{range_with_len, flat_map}
 use Rattle.std.proofs.lemmas.List.{map-append, get_or_append_left, get_or-append-add}
@@ -9,7 +9,7 @@ use Rattle.pb_base.specs.Literals.{negated}
 use Rattle.pb_family.specs.Fresh.{positive_of, literal_at}
 use Rattle.pb_counter.specs.declared.place.Place.{Place}
 use Rattle.pb_counter.specs.declared.place.Place.TheVariants.{Start, Below, One, Keep, More, Stop}
-use Rattle.pb_counter.specs.Counter.{clause_at, row_places, places, counter_clauses}
+use Rattle.pb_counter.specs.Counter.{clause_at, row_places, counter_clauses}
 use Rattle.pb_counter.specs.CounterRows.{more_clause, keep_clause, stop_clause}
 use Rattle.pb_counter.specs.CounterHalves.{first_clause}
 use Rattle.pb_counter.specs.laws.RowsRun.{place_clauses, row_clauses, rows_clauses}

@@ -1,19 +1,19 @@
 -- The lines that are about many rows: totals and sums of rows, each where the constraints that it names are known.
-use Rattle.std.proofs.Common.{◌≡◌, ◌≢◌, ◌≤◌, ◌<◌, ◌+◌, ◌-◌, ◌*◌, ◌^◌, ◌++◌, ℕ, suc, get_or, true, false, List, [], ◌∷◌, refl, ap, sym, ◌∙◌, subst, arith}
+use Rattle.std.proofs.Common.{◌≡◌, ◌≤◌, ◌<◌, ◌+◌, ◌-◌, ◌*◌, ◌^◌, ◌++◌, ℕ, get_or, true, false, List, [], ◌∷◌, refl, ap, sym, subst, arith}
 use Rattle.std.specs.Prelude.{All, map, sum_by}
 use Rattle.std.proofs.lemmas.List.Elements.{All-nil, All-cons, All-head, All-tail, All-append, All-map, All-weaker}
 use Rattle.std.proofs.lemmas.List.Kept.{AllPairs-cons}
 use Rattle.std.proofs.lemmas.List.Sums.{sum_by-append}
 use Rattle.pb_base.specs.declared.literal.Lit.{Lit}
 use Rattle.pb_base.proofs.Members.{All-append_both}
-use Rattle.pb_base.proofs.Pairs.{AllPairs-nil, AllPairs-head, AllPairs-tail, AllPairs-map}
+use Rattle.pb_base.proofs.Pairs.{AllPairs-nil, AllPairs-head, AllPairs-tail}
 use Rattle.pb_norm.specs.BoundedSums.{vars_of}
-use Rattle.pb_norm.specs.Constraints.{Weighted, Constraint, AllPositive, weight}
+use Rattle.pb_norm.specs.Constraints.{Weighted, Constraint, weight}
 use Rattle.pb_norm.specs.Reduction.{opposite}
 use Rattle.pb_steps.specs.Database.{Database}
 use Rattle.pb_derive.specs.Forms.{AreSameTerms, AreApartTerms, IsFormOf}
 use Rattle.pb_derive.specs.Later.{Knows}
-use Rattle.pb_derive.specs.Ones.{unit_of, ones}
+use Rattle.pb_derive.specs.Ones.{ones}
 use Rattle.pb_derive.proofs.Appends.{weight-append}
 use Rattle.pb_derive.proofs.Closing.{weaken_from}
 use Rattle.pb_derive.proofs.Expressions.{known, plus, IsNormal, expression_adds, weakened_adds}

@@ -1,16 +1,16 @@
 -- The clauses of a counter are derived row by row.
-use Rattle.std.proofs.Common.{◌≡◌, ◌≢◌, ◌≤◌, ◌<◌, ◌+◌, ◌-◌, ◌*◌, ◌^◌, ◌⊎◌, inl, inr, ◌++◌, ◌==◌, ℕ, zero, suc, Bool, true, false, cond, List, [], ◌∷◌, length, take, drop, refl, ap, sym, ◌∙◌, subst, arith, get_or, append-nil, append_assoc, length-append, eq-eqb}
-use Rattle.std.specs.Prelude.{All, AllPairs, map}
+use Rattle.std.proofs.Common.{◌≡◌, ◌≢◌, ◌≤◌, ◌<◌, ◌+◌, ◌-◌, ◌*◌, ◌^◌, inl, inr, ◌++◌, ◌==◌, ℕ, suc, Bool, true, cond, List, [], ◌∷◌, length, take, refl, ap, sym, ◌∙◌, subst, arith, append-nil, append_assoc, length-append}
+use Rattle.std.specs.Prelude.{map}
 use Rattle.std.specs.List.{range_with_len}
 use Rattle.std.proofs.Math.Nat.{mul-le-mul_right}
 use Rattle.std.proofs.lemmas.Bool.{ne_eqb}
 use Rattle.std.proofs.lemmas.List.{map-append, length-map}
-use Rattle.std.proofs.lemmas.List.Elements.{All-nil, All-cons, All-head, All-tail}
+use Rattle.std.proofs.lemmas.List.Elements.{All-nil, All-cons, All-head}
 use Rattle.std.proofs.lemmas.List.Kept.{AllPairs-cons}
 use Rattle.pb_base.specs.declared.literal.Lit.{Lit}
 use Rattle.pb_base.proofs.Pairs.{AllPairs-nil}
 use Rattle.pb_norm.specs.BoundedSums.{BoundedSum, IsProper}
-use Rattle.pb_norm.specs.Constraints.{Weighted, Constraint, weight}
+use Rattle.pb_norm.specs.Constraints.{Weighted, weight}
 use Rattle.pb_norm.specs.Reduction.{lits_of, all_weigh, opposite}
 use Rattle.pb_steps.specs.declared.step.Step.{Step}
 use Rattle.pb_steps.specs.Database.{Database}
@@ -35,7 +35,6 @@ use Rattle.pb_counter.specs.CounterHalves.{RowsEnd, rows_end, rows_steps, narrow
 use Rattle.pb_counter.specs.laws.FirstRow.{MayCount}
 use Rattle.pb_counter.specs.laws.FirstStage.{FirstStaged, first_staged}
 use Rattle.pb_counter.specs.laws.LastClause.{MayEnd, last_derives}
-use Rattle.pb_counter.specs.laws.RowAdds.{Below}
 use Rattle.pb_counter.specs.laws.RowOrder.{counter-clauses-by_rows}
 use Rattle.pb_counter.specs.laws.RowStages.{OrId, AreBeside}
 use Rattle.pb_counter.specs.laws.RowTotals.{AreLow, total_of}
@@ -238,9 +237,9 @@ only_derives l k last p id db h vars =
 
 -- ---- the other literals by the last one of them
 
-take-front : (ls us : List Lit) → take (length ls) (ls ++ us) ≡ ls
-take-front [] us = refl
-take-front (l ∷ ls) us = ap (λ (ks : List Lit). l ∷ ks) (take-front ls us)
+take-front : (ls vs : List Lit) → take (length ls) (ls ++ vs) ≡ ls
+take-front [] vs = refl
+take-front (l ∷ ls) vs = ap (λ (ks : List Lit). l ∷ ks) (take-front ls vs)
 
 last-literal : (ls : List Lit) (k : Lit) → literal_at (ls ++ k ∷ []) (length ls) ≡ k
 last-literal [] k = refl

@@ -1,5 +1,5 @@
 -- Where the ids of some rows end.
-use Rattle.std.proofs.Common.{◌≡◌, ◌≤◌, ◌<◌, ◌+◌, ◌-◌, ◌*◌, ◌^◌, ◌⊎◌, inl, inr, ℕ, zero, suc, Bool, true, false, cond, leb, refl, arith}
+use Rattle.std.proofs.Common.{◌≡◌, ◌≤◌, ◌<◌, ◌+◌, ◌-◌, ◌*◌, ◌^◌, ◌⊎◌, inl, inr, ℕ, zero, suc, Bool, true, false, leb, refl, arith}
 use Rattle.pb_counter.specs.CounterHalves.{RowsEnd, both_end, rows_end}
 use Rattle.pb_counter.specs.laws.RowStages.{OrId, AreBeside}
 

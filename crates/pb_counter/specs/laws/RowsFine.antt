@@ -1,6 +1,6 @@
 -- The lines of many rows are within their limits, and short.
-use Rattle.std.proofs.Common.{◌≡◌, ◌≤◌, ◌<◌, ◌+◌, ◌-◌, ◌*◌, ◌^◌, ◌++◌, ℕ, zero, suc, leb, List, [], ◌∷◌, length, take, drop, refl, ap, sym, ◌∙◌, subst, arith, length-append, length-drop}
-use Rattle.std.specs.Prelude.{All, map, sum_by}
+use Rattle.std.proofs.Common.{◌≡◌, ◌≤◌, ◌<◌, ◌+◌, ◌-◌, ◌*◌, ◌^◌, ◌++◌, ℕ, zero, suc, leb, List, [], ◌∷◌, length, take, drop, refl, ap, sym, ◌∙◌, subst, arith, length-drop}
+use Rattle.std.specs.Prelude.{All, map}
 use Rattle.std.proofs.Math.Nat.{mul-add, two-pow-succ}
 use Rattle.std.proofs.lemmas.Bool.{leb-true, leb-false}
 use Rattle.std.proofs.lemmas.Nat.{pow_pos}
@@ -9,10 +9,8 @@ use Rattle.std.proofs.lemmas.List.Elements.{All-nil, All-cons, All-head, All-map
 use Rattle.std.proofs.lemmas.List.Sums.{sum_by-cons}
 use Rattle.pb_base.specs.declared.literal.Lit.{Lit}
 use Rattle.pb_base.proofs.Members.{All-append_both}
-use Rattle.pb_steps.specs.declared.op.PolOp.{PolOp}
 use Rattle.pb_steps.specs.declared.op.PolOp.TheVariants.{Push, Weaken}
-use Rattle.pb_steps.specs.declared.step.Step.{Step}
-use Rattle.pb_steps.specs.Sayable.{IsId, IsVariable, IsOp, IsSayable}
+use Rattle.pb_steps.specs.Sayable.{IsId, IsVariable, IsOp}
 use Rattle.pb_steps.specs.StepSizes.{op_size, step_size}
 use Rattle.pb_derive.specs.Outputs.{Output}
 use Rattle.pb_derive.specs.Stages.{stage_steps}
@@ -20,8 +18,8 @@ use Rattle.pb_derive.proofs.Fine.{AreFine, fine_within, fine_append}
 use Rattle.pb_derive.proofs.FineStages.{IsFine, fine_step, fine_one, fine_stage}
 use Rattle.pb_derive.proofs.Sizes.{weakens-size}
 use Rattle.pb_counter.specs.CounterHalves.{RowsEnd, both_end, narrow_line, both_line, rows_end, rows_steps, join_steps}
-use Rattle.pb_counter.specs.laws.RowFine.{id_between, RowFits, row_fine}
-use Rattle.pb_counter.specs.laws.RowsEnds.{IsEnd, either_chosen, end_is}
+use Rattle.pb_counter.specs.laws.RowFine.{id_between, row_fine}
+use Rattle.pb_counter.specs.laws.RowsEnds.{either_chosen, end_is}
 
 -- ---- the ids of rows: 8 for each place, and up to 3 for each row
 

@@ -1,37 +1,24 @@
 -- The rows of some literals run, by halves.
-use Rattle.std.proofs.Common.{◌≡◌, ◌≢◌, ◌≤◌, ◌<◌, ◌+◌, ◌-◌, ◌*◌, ◌^◌, ◌⊎◌, inl, inr, ◌++◌, ℕ, zero, suc, Bool, true, false, cond, leb, List, [], ◌∷◌, length, take, drop, refl, ap, sym, ◌∙◌, subst, arith, get_or, append-nil, append_assoc}
-use Rattle.std.specs.Prelude.{All, AllPairs, map}
+use Rattle.std.proofs.Common.{◌≡◌, ◌≤◌, ◌<◌, ◌+◌, ◌*◌, ◌^◌, inl, inr, ◌++◌, ℕ, suc, List, [], ◌∷◌, length, refl, ap, sym, ◌∙◌, subst, arith, append-nil, append_assoc}
 use Rattle.std.specs.List.{range_with_len, flat_map}
-use Rattle.std.proofs.lemmas.Bool.{leb-true, leb-false}
-use Rattle.std.proofs.lemmas.List.{map-append, take-append-drop, length-take-le}
-use Rattle.std.proofs.Common.{length-drop}
-use Rattle.std.proofs.lemmas.List.Elements.{All-nil, All-cons, All-head, All-tail, All-append}
-use Rattle.std.proofs.lemmas.List.Kept.{AllPairs-cons}
+use Rattle.std.proofs.lemmas.List.{map-append}
+use Rattle.std.proofs.lemmas.List.Elements.{All-head}
 use Rattle.pb_base.specs.declared.literal.Lit.{Lit}
-use Rattle.pb_base.proofs.Pairs.{AllPairs-nil}
-use Rattle.pb_norm.specs.Constraints.{Weighted, Constraint, weight}
+use Rattle.pb_norm.specs.Constraints.{Weighted, Constraint}
 use Rattle.pb_steps.specs.declared.step.Step.{Step}
 use Rattle.pb_steps.specs.Database.{Database, constraint_at}
 use Rattle.pb_steps.specs.Runs.{Runs}
-use Rattle.pb_derive.specs.Later.{IsLater, IsUnnamed, Knows}
+use Rattle.pb_derive.specs.Later.{IsUnnamed, Knows}
 use Rattle.pb_derive.specs.Ones.{unit_of, ones}
 use Rattle.pb_derive.specs.Outputs.{Output, clauses_of}
-use Rattle.pb_derive.specs.Stages.{stage_steps}
-use Rattle.pb_derive.proofs.Holding.{IsHolding, IsNotOut, OrBetween, before, between, holding_same, holding_added}
-use Rattle.pb_derive.proofs.IdRanges.{IsOff}
-use Rattle.pb_derive.proofs.Laters.{later_knows}
-use Rattle.pb_derive.proofs.Lines.{AreKnown, Added, Adds, LineRan, line_ran, still_known}
-use Rattle.pb_derive.proofs.Rups.{ones-weight}
-use Rattle.pb_derive.proofs.Running.{runs_append}
-use Rattle.pb_derive.proofs.Staged.{IsLeft, Staged, staged, staged_knows}
+use Rattle.pb_derive.proofs.Holding.{IsHolding, OrBetween, before, between, holding_same, holding_added}
+use Rattle.pb_derive.proofs.Lines.{Adds, line_ran, still_known}
 use Rattle.pb_derive.proofs.UnaryRows.{order_of, front_of}
 use Rattle.pb_counter.specs.CounterRows.{more_clause, keep_clause, stop_clause, place_outputs, row_outputs, row_steps, order_at, climb_at, row_end}
-use Rattle.pb_counter.specs.CounterHalves.{RowsEnd, both_end, rows_end, rows_steps, join_steps, narrow_line, both_line}
+use Rattle.pb_counter.specs.CounterHalves.{RowsEnd}
 use Rattle.pb_counter.specs.laws.RowAdds.{Below}
 use Rattle.pb_counter.specs.laws.RowRuns.{IsRow, MayFollow}
-use Rattle.pb_counter.specs.laws.RowsAdds.{AreFew, low_parts, low_more, narrow_adds, total_adds, climb_adds}
-use Rattle.pb_counter.specs.laws.RowsEnds.{IsEnd, end_is}
-use Rattle.pb_counter.specs.laws.RowStages.{WithRow, beside, of_row, OrId, AreBeside, RowStaged, row_staged}
+use Rattle.pb_counter.specs.laws.RowStages.{WithRow, beside, of_row, OrId, AreBeside, row_staged}
 use Rattle.pb_counter.specs.laws.RowTotals.{AreLow, total_of, climb_of}
 
 -- ---- the clauses of rows

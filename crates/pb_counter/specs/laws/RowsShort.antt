@@ -1,15 +1,16 @@
 -- The lines of a counter's derivation row by row are within their limits, and short.
-use Rattle.std.proofs.Common.{◌≡◌, ◌≤◌, ◌<◌, ◌+◌, ◌-◌, ◌*◌, ◌^◌, ◌++◌, ℕ, zero, suc, true, List, [], ◌∷◌, length, refl, ap, sym, ◌∙◌, subst, arith, length-append}
-use Rattle.std.specs.Prelude.{All, map}
+use Rattle.std.proofs.Common.{◌≡◌, ◌≤◌, ◌<◌, ◌+◌, ◌-◌, ◌*◌, ◌^◌, ◌++◌, ℕ, suc, true, List, [], ◌∷◌, length, refl, ap, sym, ◌∙◌, subst, arith, length-append}
+use Rattle.std.specs.Prelude.{All}
 use Rattle.std.specs.List.{range_with_len}
-use Rattle.std.proofs.Math.Nat.{mul-le-mul_left, mul-le-mul_right}
+use Rattle.std.proofs.Math.Nat.{mul-le-mul_left}
 use Rattle.std.proofs.lemmas.List.{length-map}
 use Rattle.std.proofs.lemmas.List.Elements.{All-nil, All-cons, All-head, All-tail, All-append, All-map, All-weaker}
 use Rattle.std.proofs.lemmas.List.FromFn.{length-range_with_len}
 use Rattle.pb_base.specs.declared.literal.Lit.{Lit}
 use Rattle.pb_base.proofs.Members.{All-append_both}
 use Rattle.pb_norm.specs.BoundedSums.{BoundedSum, IsProper}
-use Rattle.pb_norm.specs.Constraints.{Weighted}
+use Rattle.pb_base.specs.declared.literal.Term.{Term}
+use Rattle.pb_norm.specs.Constraints.{weighted, weights, Weighted}
 use Rattle.pb_norm.specs.Reduction.{lits_of, all_weigh}
 use Rattle.pb_steps.specs.declared.step.Step.{Step}
 use Rattle.pb_steps.specs.Sayable.{IsId, IsVariable, IsSayable}
@@ -20,17 +21,16 @@ use Rattle.pb_derive.proofs.Fine.{AreFine, fine_within, fine_append, fine_short}
 use Rattle.pb_derive.proofs.FineStages.{IsFine, fine_step, fine_one, fine_stage}
 use Rattle.pb_derive.proofs.IdRanges.{each_between}
 use Rattle.pb_family.specs.Derivations.{AreOriginal, MayStart}
-use Rattle.pb_family.specs.Fresh.{literal_at}
 use Rattle.pb_family.proofs.UnitSums.{more_than_bound}
 use Rattle.pb_counter.specs.Counter.{counter_fresh, counter_size}
 use Rattle.pb_counter.specs.CounterRows.{stop_line, stop_clause}
-use Rattle.pb_counter.specs.CounterHalves.{RowsEnd, both_line, narrow_line, rows_end, rows_steps, first_order_at, first_steps, total_at, last_steps, further_steps, other_steps, all_steps, counter_row_steps}
-use Rattle.pb_counter.specs.laws.FirstFine.{FirstFits, first_fine}
+use Rattle.pb_counter.specs.CounterHalves.{RowsEnd, both_line, narrow_line, rows_end, rows_steps, first_order_at, first_steps, total_at, last_steps, further_steps, all_steps, counter_row_steps}
+use Rattle.pb_counter.specs.laws.FirstFine.{first_fine}
 use Rattle.pb_counter.specs.laws.RowCounts.{row_lines_few}
 use Rattle.pb_counter.specs.laws.RowFine.{factor, id_between}
 use Rattle.pb_counter.specs.laws.RowsDerive.{by_ends, other-steps-further}
 use Rattle.pb_counter.specs.laws.RowsEnds.{IsEnd, end_is}
-use Rattle.pb_counter.specs.laws.RowsFine.{ends_low, narrow_fine, both_fine, RowsFit, rows_size, rows_fine}
+use Rattle.pb_counter.specs.laws.RowsFine.{ends_low, narrow_fine, both_fine, rows_size, rows_fine}
 
 -- ---- the last clause
 
@@ -269,3 +269,14 @@ module _ (m : BoundedSum) (units : all_weigh 1 m.terms ≡ true) (proper : IsPro
   rows_few =
       subst (λ (k : ℕ). length (counter_row_steps ms m.bound first id next) ≤ 8 * (counter_fresh k m.bound + counter_size k m.bound)) size
       (row_lines_few ms m.bound first id next proper.bound_from (omega (arith, size, fits, proper.bound_from)) (omega (arith, size, small)))
+
+-- the lines are few
+pub rows_lines : (m : BoundedSum) → all_weigh 1 m.terms ≡ true → IsProper m → length m.terms < 2 ^ 31 → (first id next : ℕ)
+    → length (counter_row_steps (lits_of m.terms) m.bound first id next) ≤ 8 * (counter_fresh (length m.terms) m.bound + counter_size (length m.terms) m.bound)
+rows_lines m units proper small first id next =
+    let size : length (lits_of m.terms) ≡ length m.terms = length-map m.terms (λ (t : Weighted). t.lit) in
+    subst (λ (n : ℕ). length (counter_row_steps (lits_of m.terms) m.bound first id next) ≤ 8 * (counter_fresh n m.bound + counter_size n m.bound)) size
+    (row_lines_few (lits_of m.terms) m.bound first id next proper.bound_from (omega (arith, size, more_than_bound m units proper, proper.bound_from)) (omega (arith, size, small)))
+
+pub few_terms : (ts : List Term) → length ts < 2 ^ 31 → length (weights ts) < 2 ^ 31
+few_terms ts few = omega (arith, length-map ts weighted, few)

@@ -1,4 +1,4 @@
-use Rattle.std.proofs.Common.{[], ◌∷◌, List, ap}
+use Rattle.std.proofs.Common.{[], ◌∷◌, ap}
 use Rattle.pb_steps.specs.declared.step.Step.{Step}
 use Rattle.pb_family.proofs.Deriving.{steps_lack_first, steps_same}
 use Rattle.pb_family.proofs.line.derive_line.Goals as goal
