@@ -11,7 +11,7 @@ _pbcnf() {
     if [[ $script == pbcnf-* ]]; then
         command=$script
     elif [ "$COMP_CWORD" -eq 1 ]; then
-        mapfile -t COMPREPLY < <(compgen -W 'encode wcnf check refute decode map probe bench' -- "$word")
+        mapfile -t COMPREPLY < <(compgen -W 'encode wcnf check refute decode optimum map probe bench' -- "$word")
         return
     fi
     case $before in
@@ -41,7 +41,7 @@ _pbcnf() {
         return
     fi
     case $command in
-    encode | wcnf | check | refute | decode | map | probe | bench | pbcnf-*)
+    encode | wcnf | check | refute | decode | optimum | map | probe | bench | pbcnf-*)
         mapfile -t COMPREPLY < <(compgen -f -- "$word")
         compopt -o filenames
         ;;

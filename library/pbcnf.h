@@ -42,7 +42,7 @@ uint32_t pbcnf_abi(void);
 /* ---- statuses: those of the program. PBCNF_UNREAD is not returned. */
 enum {
   PBCNF_DONE = 0,
-  PBCNF_REFUSED = 1,      /* a text leaves its grammar: file, line, column, expected */
+  PBCNF_REFUSED = 1,      /* a text leaves its grammar: file, line, column, expected; or, without a line, lacks an objective */
   PBCNF_USAGE = 2,        /* the numbers passed choose nothing; told before any fault of a text */
   PBCNF_LIMIT = 3,        /* a text, or what is to be made of it, passes a limit: limit, and file, line, column where one is to blame */
   PBCNF_UNREAD = 4,

@@ -319,7 +319,7 @@ else
 fi
 
 completed pbcnf ''
-says encode wcnf check refute decode map probe bench
+says encode wcnf check refute decode optimum map probe bench
 completed pbcnf re
 says refute
 completed pbcnf encode --general ''

@@ -217,7 +217,7 @@ for words in '' --help -h help 'encode --help' encode constrain 'constrain a b' 
     says
     tells 'pbcnf: usage: encode, check, decode, probe or bench'
 done
-for command in encode check decode probe bench refute map wcnf; do
+for command in encode check decode probe bench refute map wcnf optimum; do
     expect 70 launch "$command" a b
 done
 

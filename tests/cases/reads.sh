@@ -27,6 +27,10 @@ ends() {
 cp "$examples"/{knapsack,timetable,pigeons}.opb "$examples/pigeons.lrat" .
 fine encode knapsack.opb knapsack.cnf knapsack.proof
 fine encode pigeons.opb pigeons.cnf pigeons.proof
+text pair.opb 'min: +1 x1 +1 x2 ;' '+1 x1 +1 x2 >= 1 ;'
+text pair.model 's SATISFIABLE' 'v 1 -2 0'
+text pair.lrat '4 0 2 3 1 0'
+fine encode pair.opb pair.cnf pair.proof --at-most=0
 text knapsack.model 's SATISFIABLE' 'v 1 2 7 8 0'
 for name in *.*; do
     head -c -1 "$name" >"cut_$name"
@@ -39,6 +43,7 @@ for one in '' cut_; do
     ends 2 decode ${one}knapsack.opb ${one}knapsack.model
     ends 3 check ${one}knapsack.opb ${one}knapsack.cnf ${one}knapsack.proof
     ends 4 refute ${one}pigeons.opb ${one}pigeons.cnf ${one}pigeons.proof ${one}pigeons.lrat
+    ends 5 optimum ${one}pair.opb ${one}pair.model ${one}pair.cnf ${one}pair.proof ${one}pair.lrat
 done
 ends 0 bench 10 7 n.cnf
 

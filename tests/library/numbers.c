@@ -86,5 +86,9 @@ int main(void) {
     pbcnf_refusal r = {3, 0, 0, PBCNF_NOT_REFUTED, 0, 0, 0, 0, unproved[i].number};
     try_reason(&unproved[i], r, "LRAT");
   }
+  {
+    pbcnf_refusal r = {0, 0, 0, PBCNF_REFUSED, PBCNF_FILE_OPB, 0, 0, 0, 0};
+    judge(says(r, "pbcnf: OPB: no objective"), "the words of a text without an objective", "PBCNF_REFUSED", PBCNF_REFUSED);
+  }
   return conclude();
 }

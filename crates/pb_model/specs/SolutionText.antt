@@ -24,5 +24,12 @@ value_words p v (value ∷ values) = value_word p v value ++ value_words p (v + 
 abbrev pub values_line : Problem → List Bool → List ℕ
 values_line p values = codes "v" ++ value_words p 1 values ++ codes "\n"
 
+-- the value of the objective, if there is one, the line of a status, and the values
+abbrev pub text_under : List ℕ → Problem → List Bool → List ℕ
+text_under status p values = objective_line (assigned_by (widened p values)) p.objective ++ status ++ values_line p values
+
 abbrev pub solution_text : Problem → List Bool → List ℕ
-solution_text p values = objective_line (assigned_by (widened p values)) p.objective ++ codes "s SATISFIABLE\n" ++ values_line p values
+solution_text = text_under (codes "s SATISFIABLE\n")
+
+abbrev pub optimum_text : Problem → List Bool → List ℕ
+optimum_text = text_under (codes "s OPTIMUM FOUND\n")

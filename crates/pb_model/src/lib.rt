@@ -21,4 +21,4 @@ pub use laws::told_exactly;
 pub use model::{Model, Says};
 pub use naming::write_map;
 pub use read::read_model;
-pub use solution::write_solution;
+pub use solution::{objective_of, write_optimum, write_solution};

@@ -1,9 +1,9 @@
 //! The text of a solution.
-ghost use Rattle.std.specs.Prelude.{◌≡◌, ◌+◌, ◌<◌, ◌≤◌, ◌^◌, ◌++◌, OnOk, OnErr, length, take, Some};
+ghost use Rattle.std.specs.Prelude.{◌≡◌, ◌≤ℤ◌, neg_ℤ, pos, ◌+◌, ◌<◌, ◌≤◌, ◌^◌, ◌++◌, OnOk, OnErr, length, take, Some};
 ghost use Rattle.pb_base.specs.Literals.{assigned_by};
-ghost use Rattle.pb_base.specs.Problems.{magnitude, widened, IsWithinLimits};
+ghost use Rattle.pb_base.specs.Problems.{magnitude, objective_terms, sum_value, widened, IsWithinLimits};
 ghost use Rattle.pb_model.specs.Decoding.{AreVarsWithin};
-ghost use Rattle.pb_model.specs.SolutionText.{objective_line, value_word, value_words, values_line, solution_text};
+ghost use Rattle.pb_model.specs.SolutionText.{objective_line, value_word, value_words, values_line, optimum_text, solution_text, text_under};
 
 use crate::appending::whole_or_none;
 use crate::decoding::sum_of;
@@ -38,6 +38,21 @@ fn push_value(
 {
     out.extend_from_slice(if value { b" " } else { b" -" })?;
     push_name(out, problem, variable)
+}
+
+/// The value of the objective, which has the empty sum if there is none.
+pub fn objective_of(problem: &Problem, values: &Bits) -> i128
+    requires within { IsWithinLimits problem.now }
+    requires covers { length values.now ≡ problem.now.vars }
+    // The value of the objective under the values, and 0 if there is none.
+    ensures value { result ≡ sum_value (assigned_by (widened problem.now values.now)) (objective_terms problem.now) }
+    ensures low { neg_ℤ (pos (magnitude (objective_terms problem.now))) ≤ℤ result }
+    ensures high { result ≤ℤ pos (magnitude (objective_terms problem.now)) }
+{
+    match &problem.objective {
+        None => 0,
+        Some(terms) => sum_of(&Widened::new(problem, values.as_slice()), terms.as_slice()),
+    }
 }
 
 // Appends the values of all variables.
@@ -78,16 +93,38 @@ fn push_values_line(out: &mut Vec<u8>, problem: &Problem, values: &[bool]) -> Re
     out.extend_from_slice(b"\n")
 }
 
-// Appends the text of a solution, or a part of it.
-fn push_solution(out: &mut Vec<u8>, problem: &Problem, values: &[bool]) -> Result<(), AllocError>
+// Appends the value of the objective, a status and the values, or a part of that.
+fn push_text(
+    out: &mut Vec<u8>,
+    status: &[u8],
+    problem: &Problem,
+    values: &[bool],
+) -> Result<(), AllocError>
     requires within { IsWithinLimits problem.now }
     requires covers { length values.now ≡ problem.now.vars }
-    ensures ok { OnOk result (out.new.items ≡ out.old.items ++ solution_text problem.now values.now) }
+    ensures ok { OnOk result (out.new.items ≡ out.old.items ++ text_under status.now problem.now values.now) }
     ensures before { take (length out.old.items) out.new.items ≡ out.old.items }
 {
     push_objective(out, problem, values)?;
-    out.extend_from_slice(b"s SATISFIABLE\n")?;
+    out.extend_from_slice(status)?;
     push_values_line(out, problem, values)
+}
+
+// The same, or nothing where memory is wanting.
+fn write_text(
+    out: &mut Vec<u8>,
+    status: &[u8],
+    problem: &Problem,
+    values: &Bits,
+) -> Result<(), NoMemory>
+    requires within { IsWithinLimits problem.now }
+    requires covers { length values.now ≡ problem.now.vars }
+    ensures ok { OnOk result (out.new.items ≡ out.old.items ++ text_under status.now problem.now values.now) }
+    ensures err { OnErr result (out.new.items ≡ out.old.items) }
+{
+    let before = out.len();
+    let appended = push_text(out, status, problem, values.as_slice());
+    whole_or_none(out, before, appended)
 }
 
 /// Appends the text of a solution: the value of the objective, if there is one, that there is a solution, and the value of each
@@ -105,7 +142,22 @@ pub fn write_solution(
     // After `NoMemory` the bytes are as they were.
     ensures err { OnErr result (out.new.items ≡ out.old.items) }
 {
-    let before = out.len();
-    let appended = push_solution(out, problem, values.as_slice());
-    whole_or_none(out, before, appended)
+    write_text(out, b"s SATISFIABLE\n", problem, values)
+}
+
+/// The same of a solution below whose value there is none.
+pub fn write_optimum(
+    _alloc: Global,
+    problem: &Problem,
+    values: &Bits,
+    out: &mut Vec<u8>,
+) -> Result<(), NoMemory>
+    requires within { IsWithinLimits problem.now }
+    requires covers { length values.now ≡ problem.now.vars }
+    // On success the text of the solution was appended, with the exact value of the objective, as an optimum.
+    ensures ok { OnOk result (out.new.items ≡ out.old.items ++ optimum_text problem.now values.now) }
+    // After `NoMemory` the bytes are as they were.
+    ensures err { OnErr result (out.new.items ≡ out.old.items) }
+{
+    write_text(out, b"s OPTIMUM FOUND\n", problem, values)
 }

@@ -76,6 +76,7 @@ module _ (o : CommandSpec) (a b d : DeskState) (goes : Goes (length o.texts) not
   counts_after (outcome.Rejected line denied) counts = quiet_after counts
   counts_after (outcome.NotASolution statement) counts = quiet_after counts
   counts_after outcome.NoModel counts = quiet_after counts
+  counts_after outcome.NoObjective counts = quiet_after counts
   counts_after (outcome.NotRefuted line why) counts = quiet_after counts
 
   pub implements_after : (answer : Outcome) → Implements o b d answer → Implements o a d answer

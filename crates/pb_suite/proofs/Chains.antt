@@ -49,7 +49,7 @@ use Rattle.pb_suite.proofs.Amples.{ample_reads, ample_writes, in_is_told}
 use Rattle.pb_suite.proofs.Decodes.{ends_saying, obeyed_says, same_posed}
 use Rattle.pb_suite.proofs.Derives.{obeyed_derives}
 use Rattle.pb_suite.proofs.Encodes.{obeyed_encodes}
-use Rattle.pb_suite.proofs.OneDues.{no_two_due}
+use Rattle.pb_suite.proofs.NoTwoDue.{no_two_due}
 use Rattle.pb_suite.proofs.Refutes.{no_solution}
 use Rattle.pb_suite.proofs.Unread.{same_some}
 

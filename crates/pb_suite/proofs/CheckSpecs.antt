@@ -1,6 +1,6 @@
 -- How going through a CNF and a derivation side by side ends a command that is to do so.
 use Rattle.std.proofs.Common.{◌≡◌, ◌≢◌, List, [], ◌∷◌, ℕ, Option, Some, None, Ok, Err, codes, inl, inr, refl, sym, subst, ◌≤◌, ◌<◌, length, arith, ◌∙◌, ap, drop, false, take}
-use Rattle.std.specs.Prelude.{◌⊎◌, Contains, IfSome, IsSome, IsTrue}
+use Rattle.std.specs.Prelude.{◌⊎◌, Contains, IfSome, IsNone, IsSome, IsTrue}
 use Rattle.std.specs.Option.{unwrap_or}
 use Rattle.pb_base.specs.declared.expected.Expected.TheVariants.{PLine}
 use Rattle.pb_base.specs.declared.file.File.{File}
@@ -8,7 +8,7 @@ use Rattle.pb_base.specs.declared.file.File.TheVariants.{Opb, Cnf, Proof}
 use Rattle.pb_base.specs.declared.problem.Problem.{Problem}
 use Rattle.pb_base.proofs.Members.{Contains-here, Contains-there}
 use Rattle.pb_desk.specs.View.{Told, View, opened, put}
-use Rattle.pb_desk.specs.Desk.{DeskState, IfTold, IsClosed, IsSteady, same}
+use Rattle.pb_desk.specs.Desk.{DeskState, IfTold, IsClosed, IsSteady, IsTold, same}
 use Rattle.pb_steps.specs.declared.denied.Denied.{Denied}
 use Rattle.pb_check.specs.declared.verdict.CheckFault.{CheckFault}
 use Rattle.pb_check.specs.declared.verdict.CheckFault.TheVariants as fault
@@ -33,8 +33,8 @@ use Rattle.pb_suite.specs.inner.Runs.{check_refusal, IsUnendedIn, KeepsReading}
 use Rattle.pb_suite.specs.inner.Saying.{EndsSaying}
 use Rattle.pb_suite.proofs.Afterwards.{implements_after}
 use Rattle.pb_suite.proofs.DenotedProblems.{denoted_by}
-use Rattle.pb_suite.proofs.Endings.{bare_memory, is_refused, is_unread, IsOpenIn}
-use Rattle.pb_suite.proofs.Going.{by_both_opened, by_both_taken, by_opened, by_same, goes_fetched, goes_reading, goes_then, keeps_by, shelf_is_if, shelf_stays, Goes}
+use Rattle.pb_suite.proofs.Endings.{always, bare_memory, is_refused, is_unread, IsOpenIn}
+use Rattle.pb_suite.proofs.Going.{by_both_opened, by_both_taken, by_opened, by_same, goes_fetched, goes_reading, goes_then, keeps_by, shelf_is_if, shelf_stays, Goes, KeepsShelf}
 use Rattle.pb_suite.proofs.Posed.{posed, read_first, unread_ends}
 use Rattle.pb_suite.proofs.Says.{saying_implements}
 use Rattle.pb_suite.proofs.Takings.{taken-closed, taken-drop, taken-opened}
@@ -55,6 +55,10 @@ nothing_judged p answer settled =
     let lines : 1 ≡ 2 = ap line_in (sym one ∙ two) in
     omega (arith, lines)
 
+-- nothing has to be known of the shelf
+abbrev pub anything : Shelf → Type 0
+anything shelf = Unit {0}
+
 module _ (w : CheckWords) where
   abbrev first_text : Text
   first_text = record { kind = Opb; name = w.opb }
@@ -71,17 +75,17 @@ module _ (w : CheckWords) where
   has_proof_text : Contains (check_spec w).texts proof_text
   has_proof_text = Contains-there first_text (cnf_text ∷ proof_text ∷ []) proof_text (Contains-there cnf_text (proof_text ∷ []) proof_text (Contains-here proof_text []))
 
-  -- what is specified of a command that checks first: the texts are among those that it reads, and it stops with what stops the check
-  pub record Checks (o : CommandSpec) : Type 0 where
+  -- what is specified of a command that checks, where this is known of the shelf: the texts are among those that it reads, and it stops with what stops the check
+  pub record Checks (Known : Shelf → Type 0) (o : CommandSpec) : Type 0 where
     pub three : 3 ≤ length o.texts
     pub has_cnf : Contains o.texts cnf_text
     pub has_proof : Contains o.texts proof_text
     pub cnf_kind : HasKind Cnf o.texts
     pub proof_kind : HasKind Proof o.texts
-    pub stops : (shelf : Shelf) (answer : Outcome) → StopsCheck shelf w answer → o.stops shelf answer
+    pub stops : (shelf : Shelf) (answer : Outcome) → Known shelf → StopsCheck shelf w answer → o.stops shelf answer
 
-  pub check_checks : Checks (check_spec w)
-  check_checks = record { three = omega arith; has_cnf = has_cnf_text; has_proof = has_proof_text; cnf_kind = inr (inl refl); proof_kind = inr (inr (inl refl)); stops = λ shelf answer stops. stops }
+  pub check_checks : Checks anything (check_spec w)
+  check_checks = record { three = omega arith; has_cnf = has_cnf_text; has_proof = has_proof_text; cnf_kind = inr (inl refl); proof_kind = inr (inr (inl refl)); stops = λ shelf answer known stops. stops }
 
   -- the two texts as a desk tells what was taken of them
   abbrev pub UnjudgedIn : Ended → View → Told → Type 0
@@ -110,17 +114,26 @@ module _ (w : CheckWords) where
         both_told b (λ t. IsDenoted t.shelf w.opb w.bound p) (λ t. taken_in b.view t 1 w.cnf ≡ Some []) (UnjudgedIn b.ended b.view)
         (λ t has one. unbegun t has (ap (λ (x : Option (List ℕ)). unwrap_or x []) one) (none_of t 2 w.proof (ap (λ (v : View). v.reading 2) is ∙ two))) denoted (taken-opened w.cnf a b is)
 
-  -- what is open for the check is so for a command that checks first, where no other slot was opened
-  abbrev pub OpenBy : CommandSpec → DeskState → DeskState → Type 0
-  OpenBy o a b = KeepsReading 3 a b → IfTold b (UnjudgedIn b.ended b.view) → IsOpenIn o b
+  -- what is open for the check is so for a command that checks, where no slot behind was opened and the shelf is the same
+  abbrev pub OpenBy : CommandSpec → DeskState → DeskState → Type 1
+  OpenBy o a b = KeepsReading 3 a b → KeepsShelf a b → IfTold b (UnjudgedIn b.ended b.view) → IsOpenIn o b
 
   -- one of both files was not opened
-  pub unopened_implements : (o : CommandSpec) → Checks o → (p : Problem) (a b : DeskState) → a.view.reading 1 ≡ false → a.view.reading 2 ≡ false → OpenBy o a b
-      → IfTold a (λ t. IsDenoted t.shelf w.opb w.bound p) → StopsOpening w.cnf w.proof a b → Implements o a b outcome.ReadFault
-  unopened_implements o checks p a b one two unjudged denoted (no_cnf fails lacks) = is_unread o a b same (by_same (length o.texts)) fails (λ steady. (cnf_text, checks.has_cnf, lacks steady, told_none_of a (λ shelf. shelf w.cnf) (λ shelf. o.stops shelf outcome.ReadFault) (λ shelf. IsDenoted shelf w.opb w.bound p) (λ shelf is none. checks.stops shelf _ (lacking p is (inl none))) denoted (lacks steady)))
-      (unjudged (keeps_by 3 same a b (by_same 3) fails.view) (unbegun_both p b (shelf_stays same a b (by_same 3) fails (λ shelf. IsDenoted shelf w.opb w.bound p) denoted) (ap (λ (v : View). v.reading 1) fails.view ∙ one) (ap (λ (v : View). v.reading 2) fails.view ∙ two)))
-  unopened_implements o checks p a b one two unjudged denoted (no_proof fails lacks) = is_unread o a b (opened 1 w.cnf) (by_opened (length o.texts) 1 w.cnf (omega (arith, checks.three))) fails (λ steady. (proof_text, checks.has_proof, lacks steady, told_none_of a (λ shelf. shelf w.proof) (λ shelf. o.stops shelf outcome.ReadFault) (λ shelf. IsDenoted shelf w.opb w.bound p) (λ shelf is none. checks.stops shelf _ (lacking p is (inr none))) denoted (lacks steady)))
-      (unjudged (keeps_by 3 (opened 1 w.cnf) a b (by_opened 3 1 w.cnf (omega arith)) fails.view) (unbegun_second p b (shelf_stays (opened 1 w.cnf) a b (by_opened 3 1 w.cnf (omega arith)) fails (λ shelf. IsDenoted shelf w.opb w.bound p) denoted) a fails.view two))
+  module _ (Known : Shelf → Type 0) (o : CommandSpec) (checks : Checks Known o) (p : Problem) (a b : DeskState) (denoted : IfTold a (λ t. IsDenoted t.shelf w.opb w.bound p)) (known : IfTold a (λ t. Known t.shelf)) where
+    lacks_one : (name : List ℕ) → ((shelf : Shelf) → shelf name ≡ None → (shelf w.cnf ≡ None) ⊎ (shelf w.proof ≡ None)) → IsTold a (λ t. IsNone (t.shelf name)) → IsTold a (λ t. o.stops t.shelf outcome.ReadFault)
+    lacks_one name either lacks =
+        told_none_of a (λ shelf. shelf name) (λ shelf. o.stops shelf outcome.ReadFault) (λ shelf. IsDenoted shelf w.opb w.bound p × Known shelf) (λ shelf is none. checks.stops shelf _ is.1 (lacking p is.0 (either shelf none)))
+        (both_told a (λ t. IsDenoted t.shelf w.opb w.bound p) (λ t. Known t.shelf) (λ t. IsDenoted t.shelf w.opb w.bound p × Known t.shelf) (λ t is so. (is, so)) denoted known) lacks
+
+    pub unopened_implements : a.view.reading 1 ≡ false → a.view.reading 2 ≡ false → OpenBy o a b → StopsOpening w.cnf w.proof a b → Implements o a b outcome.ReadFault
+    unopened_implements one two unjudged (no_cnf fails lacks) =
+        is_unread o a b same (by_same (length o.texts)) fails (λ steady. (cnf_text, checks.has_cnf, lacks steady, lacks_one w.cnf (λ shelf none. inl none) (lacks steady)))
+        (unjudged (keeps_by 3 same a b (by_same 3) fails.view) (shelf_stays same a b (by_same 3) fails)
+        (unbegun_both p b (shelf_stays same a b (by_same 3) fails (λ shelf. IsDenoted shelf w.opb w.bound p) denoted) (ap (λ (v : View). v.reading 1) fails.view ∙ one) (ap (λ (v : View). v.reading 2) fails.view ∙ two)))
+    unopened_implements one two unjudged (no_proof fails lacks) =
+        is_unread o a b (opened 1 w.cnf) (by_opened (length o.texts) 1 w.cnf (omega (arith, checks.three))) fails (λ steady. (proof_text, checks.has_proof, lacks steady, lacks_one w.proof (λ shelf none. inr none) (lacks steady)))
+        (unjudged (keeps_by 3 (opened 1 w.cnf) a b (by_opened 3 1 w.cnf (omega arith)) fails.view) (shelf_stays (opened 1 w.cnf) a b (by_opened 3 1 w.cnf (omega arith)) fails)
+        (unbegun_second p b (shelf_stays (opened 1 w.cnf) a b (by_opened 3 1 w.cnf (omega arith)) fails (λ shelf. IsDenoted shelf w.opb w.bound p) denoted) a fails.view two))
 
 module _ (w : CheckWords) (p : Problem) (d e : DeskState) (denoted : IfTold d (λ t. IsDenoted t.shelf w.opb w.bound p)) (both : IfTold d (HasBoth w.cnf w.proof)) where
   abbrev pub JudgedSo : Answer → Type 0
@@ -144,9 +157,9 @@ module _ (w : CheckWords) (p : Problem) (d e : DeskState) (denoted : IfTold d (�
   pub goes_both : (few : ℕ) (P : List ℕ → List ℕ → Type 0) → TakesBoth 1 2 P d e → Goes few nothing d e
   goes_both few P takes = goes_reading few nothing (both_taken 1 2 takes.of_one takes.of_two) d e (by_both_taken few 1 2 takes.of_one takes.of_two) takes.reached
 
-  has_kind : (o : CommandSpec) → Checks w o → (file : File) → (file ≡ Cnf) ⊎ (file ≡ Proof) → HasKind file o.texts
-  has_kind o checks file (inl cnf) = subst (λ (f : File). HasKind f o.texts) (sym cnf) checks.cnf_kind
-  has_kind o checks file (inr proof) = subst (λ (f : File). HasKind f o.texts) (sym proof) checks.proof_kind
+  has_kind : (Known : Shelf → Type 0) (o : CommandSpec) → Checks w Known o → (file : File) → (file ≡ Cnf) ⊎ (file ≡ Proof) → HasKind file o.texts
+  has_kind Known o checks file (inl cnf) = subst (λ (f : File). HasKind f o.texts) (sym cnf) checks.cnf_kind
+  has_kind Known o checks file (inr proof) = subst (λ (f : File). HasKind f o.texts) (sym proof) checks.proof_kind
 
   -- a read failed, before which the answer was open
   unjudged_so : IsTrue (d.view.reading 1) → IsTrue (d.view.reading 2) → FailsBoth 1 2 (LeavesOpen p) d e → IfTold e (UnjudgedIn w e.ended e.view)
@@ -163,24 +176,27 @@ module _ (w : CheckWords) (p : Problem) (d e : DeskState) (denoted : IfTold d (�
           let proof = taken-drop (after (Some t)) u 2 w.proof (t.left 2) fails.of_two two both.has_proof refl in
           inr (p, denoted, subst (λ (x : Option (List ℕ)). LeavesOpen p (unwrap_or x []) (unwrap_or (taken_in (after (Some t)) u 2 w.proof) [])) (sym cnf) (subst (λ (x : Option (List ℕ)). LeavesOpen p (take fails.of_one (t.left 1)) (unwrap_or x [])) (sym proof) leaves))
 
-  -- a text's fault, a read that failed, or want of memory
-  pub stopped_implements : (o : CommandSpec) → Checks w o → IsTrue (d.view.reading 1) → IsTrue (d.view.reading 2) → OpenBy w o d e → (f : CheckFault) → StopsChecking p 1 2 d e f → NamesText f → (IsSteady d → f ≢ fault.ReadFault) → Implements o d e (check_refusal f)
-  stopped_implements o checks one two unjudged (fault.Refused file place expected) stops names steady =
-      is_refused o d e _ (goes_both (length o.texts) _ stops) (has_kind o checks file names)
-      (told_more d _ _ (λ t judged. checks.stops t.shelf _ (token file place expected judged)) (judged_so (Err (fault.Refused file place expected)) stops))
-  stopped_implements o checks one two unjudged (fault.Limit file place which) stops names steady =
-      is_refused o d e _ (goes_both (length o.texts) _ stops) (has_kind o checks file names)
-      (told_more d _ _ (λ t judged. checks.stops t.shelf _ (limit file place which judged)) (judged_so (Err (fault.Limit file place which)) stops))
-  stopped_implements o checks one two unjudged fault.ReadFault stops names steady =
-      is_unread o d e (both_taken 1 2 stops.of_one stops.of_two) (by_both_taken (length o.texts) 1 2 stops.of_one stops.of_two) stops.fails (λ is. absurd (steady is refl))
-      (unjudged (keeps_by 3 (both_taken 1 2 stops.of_one stops.of_two) d e (by_both_taken 3 1 2 stops.of_one stops.of_two) stops.fails.view) (unjudged_so one two stops))
-  stopped_implements o checks one two unjudged fault.NoMemory stops names steady = bare_memory o d e (goes_both (length o.texts) _ stops)
+  module _ (Known : Shelf → Type 0) (o : CommandSpec) (checks : Checks w Known o) (known : IfTold d (λ t. Known t.shelf)) where
+    stops_so : (answer : Answer) (end : Outcome) → ((shelf : Shelf) → IsJudged shelf w answer → StopsCheck shelf w end) → TakesBoth 1 2 (λ c q. Walk p c q answer) d e → IfTold d (λ t. o.stops t.shelf end)
+    stops_so answer end stopping takes =
+        both_told d (λ t. IsJudged t.shelf w answer) (λ t. Known t.shelf) (λ t. o.stops t.shelf end) (λ t judged so. checks.stops t.shelf end so (stopping t.shelf judged)) (judged_so answer takes) known
 
-  -- a step that is not allowed
-  pub rejected_implements : (o : CommandSpec) → Checks w o → (line : ℕ) (denied : Denied) → TakesBoth 1 2 (λ c q. Walk p c q (Ok (Rejected line denied))) d e → Implements o d e (outcome.Rejected line denied)
-  rejected_implements o checks line denied takes =
-      is_refused o d e _ (goes_both (length o.texts) _ takes) checks.proof_kind
-      (told_more d _ _ (λ t judged. checks.stops t.shelf _ (denial line denied judged)) (judged_so (Ok (Rejected line denied)) takes))
+    -- a text's fault, a read that failed, or want of memory
+    pub stopped_implements : IsTrue (d.view.reading 1) → IsTrue (d.view.reading 2) → OpenBy w o d e → (f : CheckFault) → StopsChecking p 1 2 d e f → NamesText f → (IsSteady d → f ≢ fault.ReadFault) → Implements o d e (check_refusal f)
+    stopped_implements one two unjudged (fault.Refused file place expected) stops names steady =
+        is_refused o d e _ (goes_both (length o.texts) _ stops) (has_kind Known o checks file names) (stops_so (Err (fault.Refused file place expected)) _ (λ shelf judged. token file place expected judged) stops)
+    stopped_implements one two unjudged (fault.Limit file place which) stops names steady =
+        is_refused o d e _ (goes_both (length o.texts) _ stops) (has_kind Known o checks file names) (stops_so (Err (fault.Limit file place which)) _ (λ shelf judged. limit file place which judged) stops)
+    stopped_implements one two unjudged fault.ReadFault stops names steady =
+        is_unread o d e (both_taken 1 2 stops.of_one stops.of_two) (by_both_taken (length o.texts) 1 2 stops.of_one stops.of_two) stops.fails (λ is. absurd (steady is refl))
+        (unjudged (keeps_by 3 (both_taken 1 2 stops.of_one stops.of_two) d e (by_both_taken 3 1 2 stops.of_one stops.of_two) stops.fails.view)
+        (shelf_stays (both_taken 1 2 stops.of_one stops.of_two) d e (by_both_taken 3 1 2 stops.of_one stops.of_two) stops.fails) (unjudged_so one two stops))
+    stopped_implements one two unjudged fault.NoMemory stops names steady = bare_memory o d e (goes_both (length o.texts) _ stops)
+
+    -- a step that is not allowed
+    pub rejected_implements : (line : ℕ) (denied : Denied) → TakesBoth 1 2 (λ c q. Walk p c q (Ok (Rejected line denied))) d e → Implements o d e (outcome.Rejected line denied)
+    rejected_implements line denied takes =
+        is_refused o d e _ (goes_both (length o.texts) _ takes) checks.proof_kind (stops_so (Ok (Rejected line denied)) _ (λ shelf judged. denial line denied judged) takes)
 
   -- all is allowed
   accepted_due : Goes 3 nothing d e → TakesBoth 1 2 (λ c q. Walk p c q (Ok Accepted)) d e → IfTold e (λ t. (check_spec w).done t.shelf (only_words (codes "accepted\n")))
@@ -193,7 +209,7 @@ module _ (w : CheckWords) (p : Problem) (d e : DeskState) (denoted : IfTold d (�
 
 -- ---- from before the problem was read
 
-module _ {w : CheckWords} {o : CommandSpec} (checks : Checks w o) {a : DeskState} (closed : IsClosed a) where
+module _ {w : CheckWords} {o : CommandSpec} (checks : Checks w anything o) {a : DeskState} (closed : IsClosed a) where
   -- what is open for the check is so for the command, where no slot behind the check's was opened
   abbrev pub Leaves : DeskState → Type 0
   Leaves b = ((slot : ℕ) → 3 ≤ slot → b.view.reading slot ≡ false) → IfTold b (UnjudgedIn w b.ended b.view) → IsOpenIn o b
@@ -201,14 +217,13 @@ module _ {w : CheckWords} {o : CommandSpec} (checks : Checks w o) {a : DeskState
   -- the problem was not read, or a text behind it was not opened
   pub before_implements : (others : List Text) → o.texts ≡ first_text w ∷ others → (d : DeskState) → Leaves d → (answer : Outcome) → StopsBefore w a d answer → Implements o a d answer
   before_implements others first d leaves _ (not_read answer stops lacks unended) =
-      unread_ends o w.opb others first w.bound (λ shelf answer is. checks.stops shelf answer (unread answer is)) answer stops lacks unended
+      unread_ends o w.opb others first w.bound (λ shelf answer is. checks.stops shelf answer tt (unread answer is)) answer stops lacks unended
       (λ keeps more. leaves (λ slot le. keeps slot (omega (arith, le)) ∙ closed.reading slot) (unread_yet w d more (keeps 1 (omega arith) ∙ closed.reading 1) (keeps 2 (omega arith) ∙ closed.reading 2)))
   before_implements others first d leaves _ (not_opened p between read stops) =
       let goes = goes_fetched 1 0 w.opb read.fetched.0 a between (omega arith) read.fetched.1 in
       (read_first o w.opb others first w.bound read.fetched d _
-      (unopened_implements w o checks p between d (goes.reading 1 (omega arith) ∙ closed.reading 1) (goes.reading 2 (omega arith) ∙ closed.reading 2)
-      (λ keeps. leaves (λ slot le. keeps slot le ∙ goes.reading slot (omega (arith, le)) ∙ closed.reading slot))
-      (posed o w.opb others first w.bound read.fetched p read.denotes) stops))
+      (unopened_implements w anything o checks p between d (posed o w.opb others first w.bound read.fetched p read.denotes) (always between (λ t. anything t.shelf) (λ t. tt))
+      (goes.reading 1 (omega arith) ∙ closed.reading 1) (goes.reading 2 (omega arith) ∙ closed.reading 2) (λ keeps same_shelf. leaves (λ slot le. keeps slot le ∙ goes.reading slot (omega (arith, le)) ∙ closed.reading slot)) stops))
 
   module _ {p : Problem} {d : DeskState} (is : IsOpened w p a d) where
     opened_goes : (few : ℕ) → 2 < few → Goes few nothing a d
@@ -234,8 +249,8 @@ module _ {w : CheckWords} {o : CommandSpec} (checks : Checks w o) {a : DeskState
 
     pub fault_implements : (e : DeskState) → Leaves e → (f : CheckFault) → StopsChecking p 1 2 d e f → NamesText f → (IsSteady d → f ≢ fault.ReadFault) → Implements o a e (check_refusal f)
     fault_implements e leaves f stops names steady =
-        (opened_implements e _ (stopped_implements w p d e still_posed is.found o checks cnf_is_open proof_is_open (λ keeps. leaves (λ slot le. keeps slot le ∙ closed_behind slot le)) f stops names steady))
+        opened_implements e _ (stopped_implements w p d e still_posed is.found anything o checks (always d (λ t. anything t.shelf) (λ t. tt)) cnf_is_open proof_is_open (λ keeps same_shelf. leaves (λ slot le. keeps slot le ∙ closed_behind slot le)) f stops names steady)
 
     pub denied_implements : (e : DeskState) (line : ℕ) (denied : Denied) → TakesBoth 1 2 (λ c q. Walk p c q (Ok (Rejected line denied))) d e → Implements o a e (outcome.Rejected line denied)
     denied_implements e line denied takes =
-        (opened_implements e _ (rejected_implements w p d e still_posed is.found o checks line denied takes))
+        opened_implements e _ (rejected_implements w p d e still_posed is.found anything o checks (always d (λ t. anything t.shelf) (λ t. tt)) line denied takes)

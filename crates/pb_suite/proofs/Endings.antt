@@ -42,6 +42,7 @@ module _ (a b : DeskState) where
   counts_quiet (outcome.Rejected line denied) no_read no_write quiet = quiet
   counts_quiet (outcome.NotASolution statement) no_read no_write quiet = quiet
   counts_quiet outcome.NoModel no_read no_write quiet = quiet
+  counts_quiet outcome.NoObjective no_read no_write quiet = quiet
   counts_quiet (outcome.NotRefuted line why) no_read no_write quiet = quiet
 
   pub quiet_counts : (answer : Outcome) → answer ≢ outcome.ReadFault → answer ≢ outcome.WriteFault → (answer ≡ outcome.NoMemory → b.write_faults ≡ a.write_faults) → Counts a b answer → IsQuiet a b
@@ -55,6 +56,7 @@ module _ (a b : DeskState) where
   quiet_counts (outcome.Rejected line denied) no_read no_write kept counts = counts
   quiet_counts (outcome.NotASolution statement) no_read no_write kept counts = counts
   quiet_counts outcome.NoModel no_read no_write kept counts = counts
+  quiet_counts outcome.NoObjective no_read no_write kept counts = counts
   quiet_counts (outcome.NotRefuted line why) no_read no_write kept counts = counts
 
 module _ (o : CommandSpec) (a b : DeskState) where

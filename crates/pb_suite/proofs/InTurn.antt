@@ -1,12 +1,12 @@
 -- Texts behind a problem's are opened only where there is a problem.
-use Rattle.std.proofs.Common.{◌≡◌, ◌≤◌, ◌<◌, ◌∙◌, arith, ℕ, ℤ, false, List, Option, Some, length, refl, sym}
+use Rattle.std.proofs.Common.{◌≡◌, ◌≤◌, ◌<◌, ◌∙◌, arith, ℕ, ℤ, false, List, Option, Some, None, length, refl, sym}
 use Rattle.std.proofs.lemmas.Bool.{true≢false}
 use Rattle.pb_base.specs.declared.file.File.{File}
 use Rattle.pb_base.specs.declared.problem.Problem.{Problem}
 use Rattle.pb_desk.specs.Desk.{DeskState, IsClosed, same}
 use Rattle.pb_words.specs.CheckWords.{CheckWords}
 use Rattle.pb_words.specs.Parsed.{Wanted}
-use Rattle.pb_words.specs.Parsed.Wanted.{Encode, Check, Decode, Probe, Bench, Refute, Map, Wcnf}
+use Rattle.pb_words.specs.Parsed.Wanted.{Encode, Check, Decode, Probe, Bench, Refute, Map, Wcnf, Optimum}
 use Rattle.pb_suite.specs.declared.outcome.Outcome.{Outcome}
 use Rattle.pb_suite.specs.CommandSpec.{CommandSpec}
 use Rattle.pb_suite.specs.Denoted.{Denotes}
@@ -63,3 +63,4 @@ closed_in_turn (Bench w) a closed = λ slot some. closed.reading slot
 closed_in_turn (Refute w) a closed = none_behind w.checked.opb w.checked.bound a a closed (λ slot le. refl)
 closed_in_turn (Map w) a closed = λ slot some. closed.reading slot
 closed_in_turn (Wcnf w) a closed = λ slot some. closed.reading slot
+closed_in_turn (Optimum w) a closed = none_behind w.opb None a a closed (λ slot le. refl)

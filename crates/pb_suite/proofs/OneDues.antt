@@ -37,8 +37,6 @@ use Rattle.pb_words.specs.EncodeWords.{EncodeWords}
 use Rattle.pb_words.specs.MapWords.{MapWords}
 use Rattle.pb_words.specs.ProbeWords.{ProbeWords}
 use Rattle.pb_words.specs.RefuteWords.{RefuteWords}
-use Rattle.pb_words.specs.Parsed.{Wanted}
-use Rattle.pb_words.specs.Parsed.Wanted.{Encode, Check, Decode, Probe, Bench, Refute, Map, Wcnf}
 use Rattle.pb_words.specs.WcnfWords.{WcnfWords}
 use Rattle.pb_suite.specs.declared.outcome.Outcome.{Outcome}
 use Rattle.pb_suite.specs.declared.outcome.Outcome.TheVariants as outcome
@@ -58,7 +56,6 @@ use Rattle.pb_suite.specs.ProbeSpec.SaysOfLits.{conflict, fixed}
 use Rattle.pb_suite.specs.RefuteSpec.{refute_spec, IsAccepted, IsFollowed, StopsRefute}
 use Rattle.pb_suite.specs.RefuteSpec.StopsRefute.{unchecked, lacking as refute_lacking, token as refute_token, limit as refute_limit, no_refutation}
 use Rattle.pb_suite.specs.WcnfSpec.{wcnf_spec, weighted_output}
-use Rattle.pb_suite.specs.CommandSpecs.{spec_of}
 use Rattle.pb_suite.specs.Denoted.{IsDenoted}
 use Rattle.pb_suite.specs.Refusals.{IsUnread, RefusesCnf, RefusesModel, RefusesOpb}
 use Rattle.pb_suite.specs.Refusals.RefusesCnf.{token as cnf_token, limit as cnf_limit}
@@ -93,7 +90,7 @@ module _ (shelf : Shelf) (opb : List ℕ) (bound : Option ℤ) (o : Options) whe
   encode_both p answer denoted encodable (inl h) = unread_posed shelf opb bound p answer h denoted
   encode_both p answer denoted encodable (inr h) = too_large_no o (IsDenoted shelf opb bound) (same_posed shelf opb bound) p answer denoted encodable h
 
-one_encode : (w : EncodeWords) (shelf : Shelf) → SpecifiesOne (encode_spec w) shelf
+pub one_encode : (w : EncodeWords) (shelf : Shelf) → SpecifiesOne (encode_spec w) shelf
 one_encode w shelf = record {
   one_output = λ out other (p, denoted, encodable, is) (q, posed', encodable', is').
       is ∙ ap (λ (r : Problem). encoded_output (names_in w) w.options r) (same_posed shelf w.opb w.bound p q denoted posed') ∙ sym is';
@@ -101,7 +98,7 @@ one_encode w shelf = record {
   not_both = λ out answer (p, denoted, encodable, is) h. encode_both shelf w.opb w.bound w.options p answer denoted encodable h;
 }
 
-one_wcnf : (w : WcnfWords) (shelf : Shelf) → SpecifiesOne (wcnf_spec w) shelf
+pub one_wcnf : (w : WcnfWords) (shelf : Shelf) → SpecifiesOne (wcnf_spec w) shelf
 one_wcnf w shelf = record {
   one_output = λ out other (p, denoted, encodable, is) (q, posed', encodable', is').
       is ∙ ap (λ (r : Problem). weighted_output w.wcnf w.options r) (same_posed shelf w.opb w.bound p q denoted posed') ∙ sym is';
@@ -111,7 +108,7 @@ one_wcnf w shelf = record {
 
 -- ---- map
 
-one_map : (w : MapWords) (shelf : Shelf) → SpecifiesOne (map_spec w) shelf
+pub one_map : (w : MapWords) (shelf : Shelf) → SpecifiesOne (map_spec w) shelf
 one_map w shelf = record {
   one_output = λ out other (p, denoted, is) (q, posed', is'). is ∙ ap (λ (r : Problem). only_words (map_text r)) (same_posed shelf w.opb None p q denoted posed') ∙ sym is';
   one_stop = unread_one shelf w.opb (RefusesOpb None) (opb_one None);
@@ -124,7 +121,7 @@ module _ (w : BenchWords) where
   bench_same : (p q : Problem) → Reads (generated w.count w.seed) p → Reads (generated w.count w.seed) q → p ≡ q
   bench_same p q reads reads' = says_one (generated w.count w.seed) p q reads.says reads'.says
 
-  one_bench : (shelf : Shelf) → SpecifiesOne (bench_spec w) shelf
+  pub one_bench : (shelf : Shelf) → SpecifiesOne (bench_spec w) shelf
   one_bench shelf = record {
     one_output = λ out other (p, reads, encodable, is) (q, reads', encodable', is'). is ∙ ap (bench_output w.cnf) (bench_same p q reads reads') ∙ sym is';
     one_stop = too_large_one default_options (Reads (generated w.count w.seed)) bench_same;
@@ -163,7 +160,7 @@ module _ (w : ProbeWords) (shelf : Shelf) where
   output_one : (out other : Output) → out.made ≡ [] → other.made ≡ [] → out.said ≡ other.said → out ≡ other
   output_one out other none none' said = ap (λ (files : List Made). output_of files out.said) (none ∙ sym none') ∙ ap (output_of other.made) said
 
-  one_probe : SpecifiesOne (probe_spec w) shelf
+  pub one_probe : SpecifiesOne (probe_spec w) shelf
   one_probe = record {
     one_output = λ out other h k. output_one out other h.0 k.0 (probed_one out.said other.said h.1 k.1);
     one_stop = unread_one shelf w.cnf RefusesCnf cnf_one;
@@ -222,7 +219,7 @@ module _ (w : CheckWords) (shelf : Shelf) where
   check_both answer found (lacks_other p denoted none is) = judged_there (Ok Accepted) found none
   check_both answer found (judged end found' not is) = not (judged_same end (Ok Accepted) found' found)
 
-  one_check : SpecifiesOne (check_spec w) shelf
+  pub one_check : SpecifiesOne (check_spec w) shelf
   one_check = record {
     one_output = λ out other (found, is) (found', is'). is ∙ sym is';
     one_stop = λ a b h k. check_ways a b (check_way a h) (check_way b k);
@@ -284,7 +281,7 @@ module _ (w : RefuteWords) (shelf : Shelf) where
   refute_both answer found (lacks_last vars clauses accepted none is) = not_none (shelf w.lrat) found.lrat found.has_lrat none
   refute_both answer found (followed end found' not is) = not (followed_same end ending.refuted found' found)
 
-  one_refute : SpecifiesOne (refute_spec w) shelf
+  pub one_refute : SpecifiesOne (refute_spec w) shelf
   one_refute = record {
     one_output = λ out other (found, is) (found', is'). is ∙ sym is';
     one_stop = λ a b h k. refute_ways a b (refute_way a h) (refute_way b k);
@@ -329,7 +326,7 @@ module _ (w : DecodeWords) (shelf : Shelf) where
   answered_read p q m answer found denoted h =
       unread_read shelf w.model found.text (RefusesModel p.vars) answer found.on_shelf (model_refuses_none p.vars found.text m answer found.says) (unanswered_of p q answer found.denoted denoted h)
 
-  comes_same : (p q : Problem) (m n : Model) (d e : Decoded) → ComesTo shelf w p m d → ComesTo shelf w q n e → (p ≡ q) × (m ≡ n) × (d ≡ e)
+  pub comes_same : (p q : Problem) (m n : Model) (d e : Decoded) → ComesTo shelf w p m d → ComesTo shelf w q n e → (p ≡ q) × (m ≡ n) × (d ≡ e)
   comes_same p q m n d e found other =
       let problems : q ≡ p = same_posed shelf w.opb w.bound q p other.answered.denoted found.answered.denoted in
       let models : m ≡ n = same_told shelf w p m n found.answered (subst (λ (r : Problem). IsAnswered shelf w r n) problems other.answered) in
@@ -355,7 +352,7 @@ module _ (w : DecodeWords) (shelf : Shelf) where
   solution_same : (p q : Problem) (m n : Model) → p ≡ q → m ≡ n → only_words (solution_text p m.values) ≡ only_words (solution_text q n.values)
   solution_same p q m n problems models = ap (λ (r : Problem). only_words (solution_text r m.values)) problems ∙ ap (λ (k : Model). only_words (solution_text q k.values)) models
 
-  one_decode : SpecifiesOne (decode_spec w) shelf
+  pub one_decode : SpecifiesOne (decode_spec w) shelf
   one_decode = record {
     one_output = λ out other (p, m, found, is) (q, n, found', is').
         let same = comes_same p q m n decoded.Solution decoded.Solution found found' in
@@ -363,15 +360,3 @@ module _ (w : DecodeWords) (shelf : Shelf) where
     one_stop = λ a b h k. decode_ways a b (decode_way a h) (decode_way b k);
     not_both = λ out answer (p, m, found, is) h. decode_both p m answer found (decode_way answer h);
   }
-
--- ---- whatever words ask for
-
-pub no_two_due : (w : Wanted) (shelf : Shelf) → SpecifiesOne (spec_of w) shelf
-no_two_due (Encode w) shelf = one_encode w shelf
-no_two_due (Check w) shelf = one_check w shelf
-no_two_due (Decode w) shelf = one_decode w shelf
-no_two_due (Probe w) shelf = one_probe w shelf
-no_two_due (Bench w) shelf = one_bench w shelf
-no_two_due (Refute w) shelf = one_refute w shelf
-no_two_due (Map w) shelf = one_map w shelf
-no_two_due (Wcnf w) shelf = one_wcnf w shelf

@@ -12,9 +12,10 @@ use Rattle.pb_lrat.specs.LratWalk.{LratEnding as ending}
 use Rattle.pb_model.specs.declared.model.Model.{Model}
 use Rattle.pb_model.specs.declared.model.Says.TheVariants.{Satisfiable}
 use Rattle.pb_model.specs.ModelReading.{told}
-use Rattle.pb_model.specs.SolutionText.{solution_text}
+use Rattle.pb_model.specs.SolutionText.{optimum_text, solution_text}
 use Rattle.pb_words.specs.DecodeWords.{DecodeWords}
 use Rattle.pb_words.specs.EncodeWords.{EncodeWords}
+use Rattle.pb_words.specs.OptimumWords.{OptimumWords}
 use Rattle.pb_words.specs.RefuteWords.{RefuteWords}
 use Rattle.pb_words.specs.Parsed.{Wanted}
 use Rattle.pb_suite.specs.declared.outcome.Outcome.{Outcome}
@@ -26,8 +27,10 @@ use Rattle.pb_suite.specs.Denoted.{IsDenoted}
 use Rattle.pb_suite.specs.EncodeSpec.{encode_spec}
 use Rattle.pb_suite.specs.Headline.{HasNoSolution}
 use Rattle.pb_suite.specs.Implementing.{Implements}
+use Rattle.pb_suite.specs.OptimumSpec.{next_below, optimum_spec, refuting_of, IsReached}
 use Rattle.pb_suite.specs.Outputs.{only_words, Adds}
 use Rattle.pb_suite.specs.RefuteSpec.{refute_spec}
+use Rattle.pb_suite.specs.SaidOptima.{IsOptimum}
 use Rattle.pb_suite.specs.SaidSolutions.{IsDue, SaysOnly}
 
 -- A run that encoded is done. On a shelf, later, stand the text that it read and each file that it made, under its name: files return what was written.
@@ -98,6 +101,20 @@ RefutationsAreAnswered =
     → RefutesOf w r → x.view.told ≡ Some now → IsEncoded w a b now.shelf → Implements (refute_spec r) x y answer
     → now.shelf w.cnf ≡ Some cnf → now.shelf r.lrat ≡ Some lrat → IsRefutation cnf lrat
     → IsRefutedBack r now.shelf x y answer
+
+-- the values are an optimum, and exactly that is due, and was said unless a call failed or memory was wanting
+pub record IsOptimumBack (o : OptimumWords) (shelf : Shelf) (p : Problem) (values : List Bool) (old new : DeskState) (answer : Outcome) : Type 0 where
+  pub optimum : IsOptimum o shelf p values
+  pub due : IsDue (optimum_spec o) shelf (only_words (optimum_text p values))
+  pub said : SaysOnly (optimum_text p values) old new answer
+
+-- a solution is answered to be an optimum beside the files that were made with the bound below its value and a refutation of their CNF, whoever wrote that
+abbrev pub OptimaAreAnswered : Type 0
+OptimaAreAnswered =
+    (w : EncodeWords) (o : OptimumWords) (a b x y : DeskState) (answer : Outcome) (now : Told) (cnf lrat : List ℕ) (p : Problem) (m : Model)
+    → RefutesOf w (refuting_of o (next_below p m)) → x.view.told ≡ Some now → IsEncoded w a b now.shelf → Implements (optimum_spec o) x y answer → IsReached now.shelf o p m
+    → now.shelf w.cnf ≡ Some cnf → now.shelf o.lrat ≡ Some lrat → IsRefutation cnf lrat
+    → IsOptimumBack o now.shelf p m.values x y answer
 
 -- what a text tells beside more variables it tells of the first of them, too
 pub record TellsFront (small : ℕ) (text : List ℕ) (all : Model) : Type 0 where

@@ -4,13 +4,14 @@ use Rattle.std.specs.Option.{ForSome}
 use Rattle.pb_desk.specs.View.{Told}
 use Rattle.pb_desk.specs.Desk.{DeskState, IsFresh, IsSteady}
 use Rattle.pb_words.specs.Parsed.{Wanted, parsed_of}
-use Rattle.pb_words.specs.Parsed.Wanted.{Encode, Check, Decode, Probe, Bench, Refute, Map, Wcnf}
+use Rattle.pb_words.specs.Parsed.Wanted.{Encode, Check, Decode, Probe, Bench, Refute, Map, Wcnf, Optimum}
 use Rattle.pb_suite.specs.CommandSpec.{CommandSpec, Suffices}
 use Rattle.pb_suite.specs.BenchSpec.{bench_spec}
 use Rattle.pb_suite.specs.CheckSpec.{check_spec}
 use Rattle.pb_suite.specs.DecodeSpec.{decode_spec}
 use Rattle.pb_suite.specs.EncodeSpec.{encode_spec}
 use Rattle.pb_suite.specs.MapSpec.{map_spec}
+use Rattle.pb_suite.specs.OptimumSpec.{optimum_spec}
 use Rattle.pb_suite.specs.ProbeSpec.{probe_spec}
 use Rattle.pb_suite.specs.RefuteSpec.{refute_spec}
 use Rattle.pb_suite.specs.WcnfSpec.{wcnf_spec}
@@ -24,6 +25,7 @@ spec_of (Bench w) = bench_spec w
 spec_of (Refute w) = refute_spec w
 spec_of (Map w) = map_spec w
 spec_of (Wcnf w) = wcnf_spec w
+spec_of (Optimum w) = optimum_spec w
 
 -- a fresh and steady desk with what the words call for
 pub record IsAmple (t : Told) (words : List (List ℕ)) (desk : DeskState) : Type 0 where

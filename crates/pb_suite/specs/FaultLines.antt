@@ -26,6 +26,7 @@ outcome_words outcome.NoMemory = codes "pbcnf: out of memory"
 outcome_words (outcome.Rejected line denied) = codes "pbcnf: PROOF line " ++ decimal line ++ codes ": " ++ denied_words denied
 outcome_words (outcome.NotASolution statement) = codes "pbcnf: statement " ++ decimal statement ++ codes " is violated"
 outcome_words outcome.NoModel = codes "pbcnf: no model"
+outcome_words outcome.NoObjective = codes "pbcnf: OPB: no objective"
 outcome_words (outcome.NotRefuted line why) = codes "pbcnf: LRAT line " ++ decimal line ++ codes ": " ++ lrat_denied_words why
 
 -- the line, and no line where all was done

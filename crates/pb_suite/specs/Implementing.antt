@@ -1,6 +1,6 @@
 -- How a command ends over a desk, by its specification. Our own.
 use Rattle.std.specs.Prelude.{ℕ, ◌≡◌, ◌≢◌, ◌⊎◌, ◌≤◌, List, [], length, Some, None}
-use Rattle.pb_base.specs.declared.file.File.TheVariants.{Lrat, Model, Proof}
+use Rattle.pb_base.specs.declared.file.File.TheVariants.{Lrat, Model, Opb, Proof}
 use Rattle.pb_base.specs.FaultCounts.{Rose}
 use Rattle.pb_desk.specs.Desk.{DeskState, IfTold, IsSteady}
 use Rattle.pb_suite.specs.declared.outcome.Outcome.{Outcome}
@@ -17,6 +17,7 @@ IsRefusal texts (outcome.Rejected line denied) = HasKind Proof texts
 IsRefusal texts (outcome.NotASolution statement) = HasKind Model texts
 IsRefusal texts outcome.NoModel = HasKind Model texts
 IsRefusal texts (outcome.NotRefuted line why) = HasKind Lrat texts
+IsRefusal texts outcome.NoObjective = HasKind Opb texts
 IsRefusal texts other = ⊥
 
 -- no count rose

@@ -1,3 +1,5 @@
 pub mod Opening
+pub mod Optima
+pub mod Refuting
 pub mod Runs
 pub mod Saying

@@ -1,5 +1,5 @@
 //! What holds of the commands' specifications.
-ghost use Rattle.pb_suite.specs.Chain.{AmpleDesksSay, AnswersAreDecoded, FrontsAreTold, ModelsAreDecoded, RefutationsAreAnswered};
+ghost use Rattle.pb_suite.specs.Chain.{AmpleDesksSay, AnswersAreDecoded, FrontsAreTold, ModelsAreDecoded, OptimaAreAnswered, RefutationsAreAnswered};
 ghost use Rattle.pb_suite.specs.OneDue.{NoTwoDue};
 
 /// The law that no command specifies two outputs, two ways to stop, or one of each. So over a desk whose calls do not fail the answer is
@@ -18,6 +18,12 @@ pub fn models_are_decoded()
 /// answered with the line `refuted`, unless a call fails or memory runs out; and the problem has no solution.
 pub fn refutations_are_answered()
     ensures { RefutationsAreAnswered }
+{}
+
+/// The law that, if files return what was written, a solution is answered as an optimum with the CNF and the derivation that `encode`
+/// made with the bound one below its value, and a text that refutes this CNF, unless a call fails or memory runs out.
+pub fn optima_are_answered()
+    ensures { OptimaAreAnswered }
 {}
 
 /// The law that a model text says of the first variables, read for these alone, what it says of them when it is read for all.

@@ -12,8 +12,8 @@ use pb_desk::Desk;
 use pb_words::CheckArgs;
 use std::alloc::Global;
 
-// Opens a CNF in slot 1 and its derivation in slot 2, before a byte of either is read.
-fn open_both<D: Desk>(cnf: &str, proof: &str, desk: &mut D) -> Result<(), Failed>
+/// Opens a CNF in slot 1 and its derivation in slot 2, before a byte of either is read.
+pub fn open_both<D: Desk>(cnf: &str, proof: &str, desk: &mut D) -> Result<(), Failed>
     requires cnf_free { (D.state desk.old).view.reading 1 ≡ false }
     requires proof_free { (D.state desk.old).view.reading 2 ≡ false }
     ensures opened { OnOk result (Reads (opened_both cnf.now proof.now) (D.state desk.old) (D.state desk.new)) }

@@ -11,7 +11,7 @@ use Rattle.pb_base.specs.declared.options.Options.{Options}
 use Rattle.pb_base.specs.Defaults.{default_options}
 use Rattle.pb_base.specs.declared.literal.Lit.{Lit}
 use Rattle.pb_words.specs.Parsed.{Wanted, parsed_of}
-use Rattle.pb_words.specs.Parsed.Wanted.{Encode, Check, Decode, Probe, Bench, Refute, Map}
+use Rattle.pb_words.specs.Parsed.Wanted.{Encode, Check, Decode, Probe, Bench, Refute, Map, Optimum}
 use Rattle.pb_words.proofs.Lines.{said}
 
 abbrev encode : Text → Text → Options → Option Wanted
@@ -140,6 +140,22 @@ a_derivation_as_its_refutation = refl
 three_of_four_texts : said (codes "pbcnf refute a b c") ≡ None
 unfolding parsed_of clap_on_literals
 three_of_four_texts = refl
+
+five_texts : said (codes "pbcnf optimum a b c d e") ≡ Some (Optimum (record { opb = codes "a"; model = codes "b"; cnf = codes "c"; proof = codes "d"; lrat = codes "e" }))
+unfolding parsed_of clap_on_literals
+five_texts = refl
+
+a_model_as_its_refutation : said (codes "pbcnf optimum a b c d b") ≡ None
+unfolding parsed_of clap_on_literals
+a_model_as_its_refutation = refl
+
+four_of_five_texts : said (codes "pbcnf optimum a b c d") ≡ None
+unfolding parsed_of clap_on_literals
+four_of_five_texts = refl
+
+a_bound_on_an_optimum : said (codes "pbcnf optimum a b c d e --at-most=1") ≡ None
+unfolding parsed_of clap_on_literals
+a_bound_on_an_optimum = refl
 
 one_text : said (codes "pbcnf map a") ≡ Some (Map (record { opb = codes "a" }))
 unfolding parsed_of clap_on_literals

@@ -8,8 +8,9 @@ use Rattle.pb_words.specs.DecodeWords.{decode_in}
 use Rattle.pb_words.specs.EncodeWords.{encode_in}
 use Rattle.pb_words.specs.inner.Fit.{IsFit}
 use Rattle.pb_words.specs.Parsed.{program_app, parsed_of, wanted_in, Wanted}
-use Rattle.pb_words.specs.Parsed.Wanted.{Encode, Check, Decode, Probe, Bench, Refute, Map, Wcnf}
+use Rattle.pb_words.specs.Parsed.Wanted.{Encode, Check, Decode, Probe, Bench, Refute, Map, Wcnf, Optimum}
 use Rattle.pb_words.specs.MapWords.{map_in}
+use Rattle.pb_words.specs.OptimumWords.{optimum_in}
 use Rattle.pb_words.specs.ProbeWords.{probe_in}
 use Rattle.pb_words.specs.RefuteWords.{refute_in}
 use Rattle.pb_words.specs.WcnfWords.{wcnf_in}
@@ -42,7 +43,8 @@ fit_in name given w =
     (one_or (bytes_eq name (codes "bench")) _ _ w (fit_as Bench (bench_in given) w (bench_fit given))
     (one_or (bytes_eq name (codes "refute")) _ _ w (fit_as Refute (refute_in given) w (λ x is. tt))
     (one_or (bytes_eq name (codes "map")) _ _ w (fit_as Map (map_in given) w (λ x is. tt))
-    (one_or (bytes_eq name (codes "wcnf")) _ _ w (fit_as Wcnf (wcnf_in given) w (λ x is. tt)) (none_left w))))))))
+    (one_or (bytes_eq name (codes "wcnf")) _ _ w (fit_as Wcnf (wcnf_in given) w (λ x is. tt))
+    (one_or (bytes_eq name (codes "optimum")) _ _ w (fit_as Optimum (optimum_in given) w (λ x is. tt)) (none_left w)))))))))
 
 fit_by : (command : Option (Text × List Row)) (w : Wanted) → option_and_then wanted_in command ≡ Some w → IsFit w
 fit_by None w e = cc

@@ -13,5 +13,6 @@ pub mod ProbeWords
 pub mod RefuteWords
 pub mod MapWords
 pub mod WcnfWords
+pub mod OptimumWords
 pub mod Parsed
 pub mod inner

@@ -11,6 +11,7 @@ use Rattle.pb_words.specs.BenchWords.{as_bench_words, bench_app, bench_in, Bench
 use Rattle.pb_words.specs.CheckWords.{as_check_words, check_app, check_in, CheckWords}
 use Rattle.pb_words.specs.DecodeWords.{as_decode_words, decode_app, decode_in, DecodeWords}
 use Rattle.pb_words.specs.MapWords.{as_map_words, map_app, map_in, MapWords}
+use Rattle.pb_words.specs.OptimumWords.{as_optimum_words, optimum_app, optimum_in, OptimumWords}
 use Rattle.pb_words.specs.ProbeWords.{as_probe_words, probe_app, probe_in, ProbeWords}
 use Rattle.pb_words.specs.RefuteWords.{as_refute_words, refute_app, refute_in, RefuteWords}
 use Rattle.pb_words.specs.Rules.{program_of}
@@ -18,7 +19,7 @@ use Rattle.pb_words.specs.WcnfWords.{as_wcnf_words, wcnf_app, wcnf_in, WcnfWords
 
 -- the commands
 abbrev pub program_app : App
-program_app = program_of (codes "pbcnf") (encode_app ∷ check_app ∷ decode_app ∷ probe_app ∷ bench_app ∷ refute_app ∷ map_app ∷ wcnf_app ∷ [])
+program_app = program_of (codes "pbcnf") (encode_app ∷ check_app ∷ decode_app ∷ probe_app ∷ bench_app ∷ refute_app ∷ map_app ∷ wcnf_app ∷ optimum_app ∷ [])
 
 -- what is asked for
 pub data Wanted : Type 0 where
@@ -30,6 +31,7 @@ pub data Wanted : Type 0 where
   Refute : RefuteWords → Wanted
   Map : MapWords → Wanted
   Wcnf : WcnfWords → Wanted
+  Optimum : OptimumWords → Wanted
 
 -- what the command of this name is asked for, to which these arguments were given
 abbrev pub wanted_in : Text × List Row → Option Wanted
@@ -41,7 +43,8 @@ wanted_in (name, given) =
     else (if bytes_eq name (codes "bench") then option_map Bench (bench_in given)
     else (if bytes_eq name (codes "refute") then option_map Refute (refute_in given)
     else (if bytes_eq name (codes "map") then option_map Map (map_in given)
-    else (if bytes_eq name (codes "wcnf") then option_map Wcnf (wcnf_in given) else None)))))))
+    else (if bytes_eq name (codes "wcnf") then option_map Wcnf (wcnf_in given)
+    else (if bytes_eq name (codes "optimum") then option_map Optimum (optimum_in given) else None))))))))
 
 -- what the words ask for, the program's name first, where clap finds no fault in them
 unfoldable pub parsed_of : List Text → Option Wanted
@@ -58,6 +61,7 @@ wanted_as (request.Bench b) = Bench (as_bench_words b)
 wanted_as (request.Refute r) = Refute (as_refute_words r)
 wanted_as (request.Map m) = Map (as_map_words m)
 wanted_as (request.Wcnf w) = Wcnf (as_wcnf_words w)
+wanted_as (request.Optimum o) = Optimum (as_optimum_words o)
 
 -- an answer gives what is asked for, and says `Usage` only where nothing is
 abbrev pub Tells : Option Wanted → Result Request WordsFault → Type 0

@@ -11,6 +11,7 @@ use crate::decode::decode_args_in;
 use crate::encode::encode_args_in;
 use crate::fault::WordsFault;
 use crate::map::map_args_in;
+use crate::optimum::optimum_args_in;
 use crate::probe::probe_args_in;
 use crate::program::program;
 use crate::refute::refute_args_in;
@@ -54,6 +55,7 @@ fn request_in<'a>(
         "refute" => asked(refute_args_in(given).map(Request::Refute)),
         "map" => asked(map_args_in(given).map(Request::Map)),
         "wcnf" => asked(wcnf_args_in(given).map(Request::Wcnf)),
+        "optimum" => asked(optimum_args_in(given).map(Request::Optimum)),
         _ => Err(WordsFault::Usage),
     }
 }

@@ -5,11 +5,11 @@ ghost use Rattle.pb_words.specs.Rules.{bare_program, IsCommand};
 ghost use Rattle.pb_words.specs.Parsed.{program_app};
 
 use crate::command::{Syntax, command_of};
-use crate::{bench, check, decode, encode, map, probe, refute, wcnf};
+use crate::{bench, check, decode, encode, map, optimum, probe, refute, wcnf};
 use clap::Command;
 use std::alloc::{AllocError, Global};
 
-const COMMANDS: [Syntax<'static>; 8] = [
+const COMMANDS: [Syntax<'static>; 9] = [
     encode::COMMAND,
     check::COMMAND,
     decode::COMMAND,
@@ -18,6 +18,7 @@ const COMMANDS: [Syntax<'static>; 8] = [
     refute::COMMAND,
     map::COMMAND,
     wcnf::COMMAND,
+    optimum::COMMAND,
 ];
 
 // The program without its commands: one has to be given, and there is no help or version.

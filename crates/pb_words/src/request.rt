@@ -4,6 +4,7 @@ use crate::check::CheckArgs;
 use crate::decode::DecodeArgs;
 use crate::encode::EncodeArgs;
 use crate::map::MapArgs;
+use crate::optimum::OptimumArgs;
 use crate::probe::ProbeArgs;
 use crate::refute::RefuteArgs;
 use crate::wcnf::WcnfArgs;
@@ -27,4 +28,6 @@ pub enum Request<'a> {
     Map(MapArgs<'a>),
     /// Encode a problem and its objective.
     Wcnf(WcnfArgs<'a>),
+    /// Prove a solution optimal.
+    Optimum(OptimumArgs<'a>),
 }

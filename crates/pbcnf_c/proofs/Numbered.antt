@@ -33,6 +33,9 @@ expected_back x = grind arith
 abbrev place_of : ℕ → ℕ → Place
 place_of line column = record { line = line; column = column }
 
+from_one : (line : ℕ) → 1 ≤ line → (line == 0) ≡ false
+from_one line low = grind arith
+
 place_by : (line column : ℕ) → 1 ≤ line → (if line == 0 then None else Some (place_of line column)) ≡ Some (place_of line column)
 place_by line column low = grind arith
 
@@ -59,7 +62,8 @@ refused f place e = option_and_then (λ f. option_and_then (λ place. option_and
 refused_back : (f : File) (place : Place) (e : Expected) → 1 ≤ place.line → outcome_at (refused_told f place e) ≡ Some (outcome.Refused f place e)
 refused_back f place e low =
     let at = place_at (refused_told f place e) in
-    ap (λ (x : Option File). refused x at (expected_at (expected_number e))) (file_back f)
+    ap (λ (x : Bool). if x then Some outcome.NoObjective else refused (file_at (file_number f)) at (expected_at (expected_number e))) (from_one place.line low)
+    ∙ ap (λ (x : Option File). refused x at (expected_at (expected_number e))) (file_back f)
     ∙ ap (λ (x : Option Place). refused (Some f) x (expected_at (expected_number e))) (place_back place low)
     ∙ ap (λ (x : Option Expected). refused (Some f) (Some place) x) (expected_back e)
 
@@ -91,6 +95,7 @@ told_back outcome.NoMemory is = refl
 told_back (outcome.Rejected line d) is = ap (rejected line) (denied_back d is)
 told_back (outcome.NotASolution statement) is = refl
 told_back outcome.NoModel is = refl
+told_back outcome.NoObjective is = refl
 told_back (outcome.NotRefuted line why) is = ap (λ (x : Option LratDenied). option_and_then (λ why. Some (outcome.NotRefuted line why)) x) (lrat_back why)
 
 -- and so are its numbers

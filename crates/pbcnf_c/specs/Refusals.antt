@@ -120,6 +120,10 @@ denied_told line d = record { line = line; column = 0; number = (denied_number d
 abbrev pub lrat_told : ℕ → LratDenied → PbcnfRefusal
 lrat_told line why = record { line = line; column = 0; number = (lrat_number why).1; status = 10; file = 0; expected = 0; limit = 0; denied = 0; unproved = (lrat_number why).0 }
 
+-- the text, which has no place where it lacks an objective
+abbrev pub objective_told : PbcnfRefusal
+objective_told = record (blank 1) { file = 1 }
+
 abbrev pub refusal_of : Outcome → PbcnfRefusal
 refusal_of outcome.Done = blank 0
 refusal_of (outcome.Refused f place e) = refused_told f place e
@@ -131,4 +135,5 @@ refusal_of outcome.NoMemory = blank 6
 refusal_of (outcome.Rejected line d) = denied_told line d
 refusal_of (outcome.NotASolution statement) = record { line = 0; column = 0; number = statement; status = 8; file = 0; expected = 0; limit = 0; denied = 0; unproved = 0 }
 refusal_of outcome.NoModel = blank 9
+refusal_of outcome.NoObjective = objective_told
 refusal_of (outcome.NotRefuted line why) = lrat_told line why

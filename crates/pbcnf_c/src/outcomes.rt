@@ -205,6 +205,7 @@ fn outcome_at(refusal: &PbcnfRefusal) -> Option<Outcome>
 {
     match refusal.status {
         0 => Some(Outcome::Done),
+        1 if refusal.line == 0 => Some(Outcome::NoObjective),
         1 => refused_at(refusal),
         2 => Some(Outcome::Usage),
         3 => limited_at(refusal),

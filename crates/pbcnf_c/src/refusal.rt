@@ -1,6 +1,6 @@
 //! Why a call did not do what was asked, in numbers.
 ghost use Rattle.std.specs.Prelude.{◌≡◌};
-ghost use Rattle.pbcnf_c.specs.Refusals.{blank, denied_number, denied_told, expected_number, file_number, limit_number, limit_told, lrat_number, lrat_told, refusal_of, refused_told};
+ghost use Rattle.pbcnf_c.specs.Refusals.{blank, denied_number, denied_told, expected_number, file_number, limit_number, limit_told, lrat_number, lrat_told, objective_told, refusal_of, refused_told};
 ghost use Rattle.pb_suite.specs.Statuses.{status_of};
 
 use pb_base::{Expected, File, LimitKind, Place};
@@ -201,6 +201,15 @@ fn lrat_told(line: u64, why: LratDenied) -> PbcnfRefusal
     told
 }
 
+// The text is named, without a place.
+fn objective_told() -> PbcnfRefusal
+    ensures { result ≡ objective_told }
+{
+    let mut told = blank(1);
+    told.file = file_number(File::Opb);
+    told
+}
+
 /// An outcome in numbers.
 pub fn refusal_of(outcome: Outcome) -> PbcnfRefusal
     ensures { result ≡ refusal_of outcome }
@@ -224,6 +233,7 @@ pub fn refusal_of(outcome: Outcome) -> PbcnfRefusal
             told
         }
         Outcome::NoModel => blank(9),
+        Outcome::NoObjective => objective_told(),
         Outcome::NotRefuted { line, why } => lrat_told(line, why),
     }
 }

@@ -8,11 +8,11 @@ ghost use Rattle.std.specs.Prelude.{◌≤◌};
 use crate::runs::{Run, run_over};
 use std::alloc::Global;
 
-// The words of a run, and the texts of the files `a`, `b`, `c` and `l`. A run that reads fewer does not open the others.
+// The words of a run, and the texts of the files `a`, `b`, `c`, `l` and `m`. A run that reads fewer does not open the others.
 #[derive(Clone, Copy)]
 struct Asked<'a> {
     words: &'a str,
-    texts: [&'a [u8]; 4],
+    texts: [&'a [u8]; 5],
 }
 
 // A run on a desk with these files, whose call of this number fails, and none where it is 0; a call moves so many bytes, and
@@ -20,8 +20,14 @@ struct Asked<'a> {
 fn run_on(alloc: Global, asked: Asked, call: u64, piece: usize, room: usize) -> Option<Run>
     requires { 1 ≤ piece }
 {
-    let [first, second, third, fourth] = asked.texts;
-    let texts = [("a", first), ("b", second), ("c", third), ("l", fourth)];
+    let [first, second, third, fourth, fifth] = asked.texts;
+    let texts = [
+        ("a", first),
+        ("b", second),
+        ("c", third),
+        ("l", fourth),
+        ("m", fifth),
+    ];
     run_over(alloc, asked.words, &texts, call, piece, room).ok()
 }
 

@@ -8,6 +8,7 @@ mod derivations;
 mod encodes;
 mod equalities;
 mod maps;
+mod optima;
 mod probes;
 mod refuses;
 mod refutes;

@@ -32,23 +32,25 @@ pub fn model_refusal(fault: ModelFault) -> Outcome
     }
 }
 
-// Reads what a solver printed of so many variables, or says why not.
-fn read_answer<D: Desk>(
+/// Reads what a solver printed of so many variables, in this slot, or says why not.
+pub fn read_answer<D: Desk>(
     alloc: Global,
+    desk: &mut D,
+    slot: u8,
     name: &str,
     vars: u32,
-    desk: &mut D,
 ) -> Result<Model, Outcome>
     requires few { vars < 2 ^ 31 }
-    requires free { (D.state desk.old).view.reading 1 ≡ false }
+    requires slot { slot < 5 }
+    requires free { (D.state desk.old).view.reading slot ≡ false }
     ensures covers { IfOk result (λ m. length m.values ≡ vars) }
-    ensures read { IfOk result (λ m. (count : ℕ) × Fetches 1 name.now count (D.state desk.old) (D.state desk.new)) }
+    ensures read { IfOk result (λ m. (count : ℕ) × Fetches slot name.now count (D.state desk.old) (D.state desk.new)) }
     ensures says { IfOk result (λ m. HasText name.now (λ text. told vars text ≡ Ok m) (D.state desk.old)) }
-    ensures stopped { IfErr result (StopsReading File.Model 1 name.now (RefusesModel vars) (D.state desk.old) (D.state desk.new)) }
-    ensures unended { result ≡ Err Outcome.ReadFault → IsUnendedIn 1 name.now (D.state desk.new) }
+    ensures stopped { IfErr result (StopsReading File.Model slot name.now (RefusesModel vars) (D.state desk.old) (D.state desk.new)) }
+    ensures unended { result ≡ Err Outcome.ReadFault → IsUnendedIn slot name.now (D.state desk.new) }
     ensures steady { IsSteady (D.state desk.old) → result ≡ Err Outcome.ReadFault → IsTold (D.state desk.old) (λ t. IsNone (t.shelf name.now)) }
 {
-    let text = match read_text(alloc, desk, 1, File::Model, name) {
+    let text = match read_text(alloc, desk, slot, File::Model, name) {
         Ok(text) => text,
         Err(outcome) => return Err(outcome),
     };
@@ -109,7 +111,7 @@ pub fn decode_file<D: Desk>(alloc: Global, asked: &DecodeArgs<'_>, desk: &mut D)
         Ok(problem) => problem,
         Err(outcome) => return outcome,
     };
-    let model = match read_answer(alloc, asked.model, problem.vars, desk) {
+    let model = match read_answer(alloc, desk, 1, asked.model, problem.vars) {
         Ok(model) => model,
         Err(outcome) => return outcome,
     };

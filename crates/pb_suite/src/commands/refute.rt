@@ -1,18 +1,20 @@
 //! Refuting the problem of a file.
-ghost use Rattle.std.specs.Prelude.{◌≡◌, ◌<◌, ◌^◌, false};
-ghost use Rattle.pb_desk.specs.Desk.{IfTold, IsClosed};
+ghost use Rattle.std.specs.Prelude.{◌≡◌, ◌<◌, ◌^◌, false, IsTrue};
+ghost use Rattle.pb_base.specs.Problems.{IsWithinLimits};
+ghost use Rattle.pb_desk.specs.Desk.{IsClosed};
 ghost use Rattle.pb_words.specs.RefuteWords.{as_refute_words};
 ghost use Rattle.pb_words.specs.Parsed.Wanted.{Refute};
 ghost use Rattle.pb_suite.specs.Implementing.{Implements};
 ghost use Rattle.pb_suite.specs.InTurn.{OpensInTurn};
-ghost use Rattle.pb_suite.specs.RefuteSpec.{refute_spec, IsAccepted};
+ghost use Rattle.pb_suite.specs.RefuteSpec.{refute_spec};
+ghost use Rattle.pb_suite.specs.inner.Refuting.{EndsFollowing, EndsRefuting};
 ghost use Rattle.pb_suite.specs.inner.Runs.{lrat_refusal};
 
 use crate::commands::check::check_refusal;
 use crate::opening::open_checked;
 use crate::outcome::{Outcome, limited, refused};
 use crate::saying::say;
-use pb_base::{Clauses, Failed, File};
+use pb_base::{Clauses, Failed, File, Problem};
 use pb_check::{Verdict, check_kept};
 use pb_desk::Desk;
 use pb_lrat::{RefuteFault, refute};
@@ -32,26 +34,53 @@ fn lrat_refusal(fault: RefuteFault) -> Outcome
     }
 }
 
-// Opens the refutation of the clauses of a CNF whose derivation was accepted, goes through it, and says where it is one.
+// Opens the refutation of the clauses of a CNF, goes through it, and says the line where it is one.
 fn check_refutation<D: Desk>(
     alloc: Global,
     vars: u32,
     clauses: Clauses,
-    asked: &RefuteArgs<'_>,
+    lrat: &str,
+    line: &[u8],
     desk: &mut D,
 ) -> Outcome
     requires few { vars < 2 ^ 31 }
     requires free { (D.state desk.old).view.reading 3 ≡ false }
-    requires accepted { IfTold (D.state desk.old) (λ t. IsAccepted t.shelf (as_refute_words asked.now) vars clauses) }
-    ensures { Implements (refute_spec (as_refute_words asked.now)) (D.state desk.old) (D.state desk.new) result }
+    ensures { EndsFollowing vars clauses lrat.now line.now (D.state desk.old) (D.state desk.new) result }
 {
-    match desk.open(3, asked.lrat) {
+    match desk.open(3, lrat) {
         Ok(()) => {}
         Err(Failed) => return Outcome::ReadFault,
     }
     match refute(alloc, desk, 3, vars, clauses) {
-        Ok(()) => say(desk, b"refuted\n"),
+        Ok(()) => say(desk, line),
         Err(fault) => lrat_refusal(fault),
+    }
+}
+
+/// Goes through a CNF and its derivation, which were opened in slots 1 and 2, and then through the refutation, and says the line where
+/// the derivation is accepted and the CNF refuted.
+pub fn refute_opened<D: Desk>(
+    alloc: Global,
+    problem: &Problem,
+    lrat: &str,
+    line: &[u8],
+    desk: &mut D,
+) -> Outcome
+    requires within { IsWithinLimits problem.now }
+    requires cnf_open { IsTrue ((D.state desk.old).view.reading 1) }
+    requires proof_open { IsTrue ((D.state desk.old).view.reading 2) }
+    requires cnf_begun { (D.state desk.old).ended 1 ≡ false }
+    requires proof_begun { (D.state desk.old).ended 2 ≡ false }
+    requires free { (D.state desk.old).view.reading 3 ≡ false }
+    ensures { EndsRefuting problem.now lrat.now line.now (D.state desk.old) (D.state desk.new) result }
+{
+    let (verdict, vars, clauses) = match check_kept(alloc, problem, desk, 1, 2) {
+        Ok(found) => found,
+        Err(fault) => return check_refusal(fault),
+    };
+    match verdict {
+        Verdict::Accepted => check_refutation(alloc, vars, clauses, lrat, line, desk),
+        Verdict::Rejected { line, denied } => Outcome::Rejected { line, denied },
     }
 }
 
@@ -66,12 +95,5 @@ pub fn refute_file<D: Desk>(alloc: Global, asked: &RefuteArgs<'_>, desk: &mut D)
         Ok(problem) => problem,
         Err(outcome) => return outcome,
     };
-    let (verdict, vars, clauses) = match check_kept(alloc, &problem, desk, 1, 2) {
-        Ok(found) => found,
-        Err(fault) => return check_refusal(fault),
-    };
-    match verdict {
-        Verdict::Accepted => check_refutation(alloc, vars, clauses, asked, desk),
-        Verdict::Rejected { line, denied } => Outcome::Rejected { line, denied },
-    }
+    refute_opened(alloc, &problem, asked.lrat, b"refuted\n", desk)
 }

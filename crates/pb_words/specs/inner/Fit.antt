@@ -4,7 +4,7 @@ use Rattle.std.specs.Option.{ForSome}
 use Rattle.pb_words.specs.BenchWords.{BenchWords}
 use Rattle.pb_words.specs.EncodeWords.{EncodeWords}
 use Rattle.pb_words.specs.Parsed.{Wanted}
-use Rattle.pb_words.specs.Parsed.Wanted.{Encode, Check, Decode, Probe, Bench, Refute, Map, Wcnf}
+use Rattle.pb_words.specs.Parsed.Wanted.{Encode, Check, Decode, Probe, Bench, Refute, Map, Wcnf, Optimum}
 
 -- different names
 pub record IsFitEncode (w : EncodeWords) : Type 0 where
@@ -25,3 +25,4 @@ IsFit (Bench w) = IsFitBench w
 IsFit (Refute w) = Unit {0}
 IsFit (Map w) = Unit {0}
 IsFit (Wcnf w) = Unit {0}
+IsFit (Optimum w) = Unit {0}

@@ -49,4 +49,4 @@ abbrev pub none_refuted_at : PbcnfRefusal → Option Outcome
 none_refuted_at r = option_and_then (λ why. Some (outcome.NotRefuted r.line why)) (lrat_at r.unproved r.number)
 
 abbrev pub outcome_at : PbcnfRefusal → Option Outcome
-outcome_at r = if r.status == 0 then Some outcome.Done else if r.status == 1 then refused_at r else if r.status == 2 then Some outcome.Usage else if r.status == 3 then limited_at r else if r.status == 5 then Some outcome.WriteFault else if r.status == 6 then Some outcome.NoMemory else if r.status == 7 then rejected_at r else if r.status == 8 then Some (outcome.NotASolution r.number) else if r.status == 9 then Some outcome.NoModel else if r.status == 10 then none_refuted_at r else None
+outcome_at r = if r.status == 0 then Some outcome.Done else if r.status == 1 then (if r.line == 0 then Some outcome.NoObjective else refused_at r) else if r.status == 2 then Some outcome.Usage else if r.status == 3 then limited_at r else if r.status == 5 then Some outcome.WriteFault else if r.status == 6 then Some outcome.NoMemory else if r.status == 7 then rejected_at r else if r.status == 8 then Some (outcome.NotASolution r.number) else if r.status == 9 then Some outcome.NoModel else if r.status == 10 then none_refuted_at r else None

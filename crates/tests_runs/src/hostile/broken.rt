@@ -31,12 +31,12 @@ fn mark(alloc: Global, asked: Asked) -> char {
 // The mark of a run over these texts, of which one is replaced.
 fn mark_with(alloc: Global, asked: Asked, at: usize, text: &[u8]) -> char {
     let words = asked.words;
-    let [first, second, third, fourth] = asked.texts;
+    let [first, second, third, fourth, fifth] = asked.texts;
     let texts = match at {
-        0 => [text, second, third, fourth],
-        1 => [first, text, third, fourth],
-        2 => [first, second, text, fourth],
-        _ => [first, second, third, text],
+        0 => [text, second, third, fourth, fifth],
+        1 => [first, text, third, fourth, fifth],
+        2 => [first, second, text, fourth, fifth],
+        _ => [first, second, third, text, fifth],
     };
     mark(alloc, Asked { words, texts })
 }
@@ -110,6 +110,7 @@ fn broken_of<'x>(
         second.as_bytes(),
         third.as_bytes(),
         fourth.as_bytes(),
+        b"",
     ];
     broken(alloc, Asked { words, texts }, at)
 }
@@ -119,7 +120,7 @@ fn told_of_many(alloc: Global) -> Option<String> {
     let text = "1 x1 ".repeat(alloc, 1_048_577).ok()?;
     let asked = Asked {
         words: "pbcnf encode a d",
-        texts: [text.as_bytes(), b"", b"", b""],
+        texts: [text.as_bytes(), b"", b"", b"", b""],
     };
     let run = run_on(alloc, asked, 0, 65_536, 4096)?;
     refusal_of(alloc, &run)

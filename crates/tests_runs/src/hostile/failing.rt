@@ -64,7 +64,7 @@ fn moves(bytes: &[u8], piece: usize) -> u64
 }
 
 // How many calls read the first `count` texts: each is opened, and one more read finds its end.
-fn reads_of(texts: [&[u8]; 4], count: usize, piece: usize) -> u64
+fn reads_of(texts: [&[u8]; 5], count: usize, piece: usize) -> u64
     requires { 1 ≤ piece }
 {
     let mut calls: u64 = 0;
@@ -188,7 +188,7 @@ fn is_tried_over<'x>(
     second: &'x str,
     count: usize,
 ) -> bool {
-    let texts = [first.as_bytes(), second.as_bytes(), b"", b""];
+    let texts = [first.as_bytes(), second.as_bytes(), b"", b"", b""];
     is_tried(alloc, Asked { words, texts }, count)
 }
 
@@ -239,16 +239,24 @@ fn each_command(rt: HostRuntime) {
     }
 }
 
-// The CNF and the derivation of a problem alone.
-fn derived(opb: &str) -> Asked<'_> {
-    let texts = [opb.as_bytes(), b"", b"", b""];
-    Asked {
-        words: DERIVE,
-        texts,
-    }
+// The CNF and the derivation of a problem alone, by these words.
+fn derived<'a>(words: &'a str, opb: &'a str) -> Asked<'a> {
+    let texts = [opb.as_bytes(), b"", b"", b"", b""];
+    Asked { words, texts }
 }
 
-// A run is tried that reads a problem, the CNF and the derivation that were made of it, and a refutation, or the first of these.
+// A problem, the CNF and the derivation that were made of it, a refutation, and what a solver printed.
+fn texts_over<'a>(opb: &'a str, made: &'a Run, lrat: &'a str, model: &'a str) -> [&'a [u8]; 5] {
+    [
+        opb.as_bytes(),
+        file_of(made, 0),
+        file_of(made, 1),
+        lrat.as_bytes(),
+        model.as_bytes(),
+    ]
+}
+
+// A run is tried that reads these, or the first of them.
 fn is_check_tried<'a>(
     alloc: Global,
     words: &'a str,
@@ -257,14 +265,12 @@ fn is_check_tried<'a>(
     lrat: &'a str,
     count: usize,
 ) -> bool {
-    let texts = [
-        opb.as_bytes(),
-        file_of(made, 0),
-        file_of(made, 1),
-        lrat.as_bytes(),
-    ];
+    let texts = texts_over(opb, made, lrat, PRINTED);
     is_tried(alloc, Asked { words, texts }, count)
 }
+
+// One of two variables, each of which costs 1.
+const PAIR: &str = "min: +1 x1 +1 x2 ;\n+1 x1 +1 x2 >= 1 ;\n";
 
 // One of two variables, and neither.
 const NEITHER: &str = "+1 x1 +1 x2 >= 1 ;\n+1 ~x1 >= 1 ;\n+1 ~x2 >= 1 ;\n";
@@ -277,9 +283,16 @@ fn is_not_ended(run: &Run) -> bool {
         && run.desk.said().is_empty()
 }
 
-// Whether a run is tried over what is made of a problem.
-fn is_tried_over_made(alloc: Global, words: &str, opb: &str, lrat: &str, count: usize) -> bool {
-    match run_freely(alloc, derived(opb)) {
+// Whether a run is tried over what is made of a problem with the words before.
+fn is_tried_over_made(
+    alloc: Global,
+    making: &str,
+    words: &str,
+    opb: &str,
+    lrat: &str,
+    count: usize,
+) -> bool {
+    match run_freely(alloc, derived(making, opb)) {
         Some(made) => is_check_tried(alloc, words, opb, &made, lrat, count),
         None => false,
     }
@@ -287,16 +300,26 @@ fn is_tried_over_made(alloc: Global, words: &str, opb: &str, lrat: &str, count: 
 
 #[test]
 fn derivations_and_refutations(rt: HostRuntime) {
-    let is_checked = is_tried_over_made(rt.alloc(), "pbcnf check a b c", WEIGHTS, "", 3);
+    let is_checked = is_tried_over_made(rt.alloc(), DERIVE, "pbcnf check a b c", WEIGHTS, "", 3);
     let lrat = "4 0 2 3 1 0\n";
-    let is_refuted = is_tried_over_made(rt.alloc(), "pbcnf refute a b c l", NEITHER, lrat, 4);
+    let is_refuted = is_tried_over_made(
+        rt.alloc(),
+        DERIVE,
+        "pbcnf refute a b c l",
+        NEITHER,
+        lrat,
+        4,
+    );
+    let words = "pbcnf optimum a m b c l";
+    let making = "pbcnf encode a d e --at-most=0";
+    let is_proved = is_tried_over_made(rt.alloc(), making, words, PAIR, lrat, 5);
     assert!(rt;
-        is_checked && is_refuted,
-        "check {is_checked}, refute {is_refuted}"
+        is_checked && is_refuted && is_proved,
+        "check {is_checked}, refute {is_refuted}, optimum {is_proved}"
     );
     // The CNF is whole where it can't be ended, and no derivation is made: the text is opened and read to its end in two calls,
     // the file is created, written, and then closed.
-    let run = run_on(rt.alloc(), derived(WEIGHTS), 6, 4096, 4096).expect(&rt, "run");
+    let run = run_on(rt.alloc(), derived(DERIVE, WEIGHTS), 6, 4096, 4096).expect(&rt, "run");
     let is_not_ended = is_not_ended(&run);
     assert!(rt; is_not_ended);
 }

@@ -1,4 +1,4 @@
-use Rattle.std.proofs.Common.{◌≡◌, ◌≤◌, ◌<◌, ◌^◌, ◌∙◌, rules, FitsSigned, to_z, of_z, ℕ, ℤ, List, Option, Some, Err, ap, inl, inr, refl, sym, subst}
+use Rattle.std.proofs.Common.{◌≡◌, ◌≤◌, ◌<◌, ◌^◌, ◌∙◌, rules, FitsSigned, to_z, of_z, ℕ, ℤ, List, Option, Some, None, Err, ap, inl, inr, refl, sym, subst}
 use mir.Syntax.{w128}
 use Rattle.std.proofs.lemmas.Int.{to_z-of_z}
 use Rattle.pb_base.specs.declared.problem.Problem.{Problem}
@@ -38,6 +38,14 @@ returns-in-Err-clause-stopped c =
 pub returns-in-None-clause-denotes : goal.returns-in-None-clause-denotes
 returns-in-None-clause-denotes c =
     subst (λ (o : Option ℤ). Denotes o c.args.text.now c.in-Ok.problem) (sym c.in-None.is) (record { plain = c.in-Ok.problem; reads = c.in-Ok.ensures.reads; light = tt; is = refl })
+
+pub returns-in-None-clause-few : goal.returns-in-None-clause-few
+returns-in-None-clause-few c = λ is. reads_few c.args.text.now c.in-Ok.problem c.in-Ok.ensures.reads
+
+pub returns-in-Ok-bounded-clause-few : goal.returns-in-Ok-bounded-clause-few
+returns-in-Ok-bounded-clause-few c = λ is.
+    let no : Some c.in-Some.most ≡ None = sym c.in-Some.is ∙ is in
+    cc
 
 pub bounded-requires-clause-room : goal.bounded-requires-clause-room
 bounded-requires-clause-room c = reads_few c.args.text.now c.in-Ok.problem c.in-Ok.ensures.reads

@@ -38,6 +38,9 @@ returns-in-Map-clause-implements g c = subst (λ (r : Request). Implements (spec
 pub returns-in-Wcnf-clause-implements : goal.returns-in-Wcnf-clause-implements
 returns-in-Wcnf-clause-implements g c = subst (λ (r : Request). Implements (spec_of (wanted_as r)) (g.D.Desk.state c.args.desk.now) (g.D.Desk.state c.wcnf_file.new.desk) c.wcnf_file.result) (sym c.in-Wcnf.is) c.wcnf_file.ensures
 
+pub returns-in-Optimum-clause-implements : goal.returns-in-Optimum-clause-implements
+returns-in-Optimum-clause-implements g c = subst (λ (r : Request). Implements (spec_of (wanted_as r)) (g.D.Desk.state c.args.desk.now) (g.D.Desk.state c.optimum_file.new.desk) c.optimum_file.result) (sym c.in-Optimum.is) c.optimum_file.ensures.implements
+
 -- ---- what is opened
 
 pub returns-in-Encode-clause-in_turn : goal.returns-in-Encode-clause-in_turn
@@ -63,3 +66,6 @@ returns-in-Map-clause-in_turn g c = subst (λ (r : Request). OpensInTurn (wanted
 
 pub returns-in-Wcnf-clause-in_turn : goal.returns-in-Wcnf-clause-in_turn
 returns-in-Wcnf-clause-in_turn g c = subst (λ (r : Request). OpensInTurn (wanted_as r) (g.D.Desk.state c.args.desk.now) (g.D.Desk.state c.wcnf_file.new.desk)) (sym c.in-Wcnf.is) (opens_one _ (g.D.Desk.state c.args.desk.now) (g.D.Desk.state c.wcnf_file.new.desk) _ (omega arith) c.requires.closed c.wcnf_file.ensures)
+
+pub returns-in-Optimum-clause-in_turn : goal.returns-in-Optimum-clause-in_turn
+returns-in-Optimum-clause-in_turn g c = subst (λ (r : Request). OpensInTurn (wanted_as r) (g.D.Desk.state c.args.desk.now) (g.D.Desk.state c.optimum_file.new.desk)) (sym c.in-Optimum.is) c.optimum_file.ensures.in_turn

@@ -18,19 +18,19 @@ use Rattle.pb_suite.proofs.Texts.{has_text}
 use Rattle.pb_suite.proofs.commands.decode.read_answer.Goals as goal
 
 -- a text that was read whole, and has a fault
-stops_at : (vars : ℕ) (name text : List ℕ) (a b : DeskState) (fault : ModelFault) → Fetches 1 name (length text) a b → IfTold a (λ t. t.shelf name ≡ Some text)
-    → IsFaultOf (told vars text) fault → StopsReading Model 1 name (RefusesModel vars) a b (model_refusal fault)
-stops_at vars name text a b (model.Token place e) reached is first =
+stops_at : (vars slot : ℕ) (name text : List ℕ) (a b : DeskState) (fault : ModelFault) → Fetches slot name (length text) a b → IfTold a (λ t. t.shelf name ≡ Some text)
+    → IsFaultOf (told vars text) fault → StopsReading Model slot name (RefusesModel vars) a b (model_refusal fault)
+stops_at vars slot name text a b (model.Token place e) reached is first =
     refused (length text) _ (at_token place e) reached (has_text a name text (λ xs. RefusesModel vars xs (model_refusal (model.Token place e))) (token place e (first (λ no. cc))) is)
-stops_at vars name text a b (model.Limit place which) reached is first =
+stops_at vars slot name text a b (model.Limit place which) reached is first =
     refused (length text) _ (at_limit place which) reached (has_text a name text (λ xs. RefusesModel vars xs (model_refusal (model.Limit place which))) (limit place which (first (λ no. cc))) is)
-stops_at vars name text a b model.NoMemory reached is first = no_memory (length text) reached
+stops_at vars slot name text a b model.NoMemory reached is first = no_memory (length text) reached
 
 too_long : (vars : ℕ) (text : List ℕ) (answer : Outcome) → IsTooLong Model text answer → RefusesModel vars text answer
 too_long vars text answer is = subst (RefusesModel vars text) (sym is.0) (limit None Text (told_too_long vars text is.1))
 
 pub returns-in-Err-clause-stopped : goal.returns-in-Err-clause-stopped
-returns-in-Err-clause-stopped g c = reading_weaker Model 1 c.args.name.now (IsTooLong Model) (RefusesModel c.args.vars) (too_long c.args.vars) _ _ c.in-Err.outcome c.in-Err.ensures.stopped
+returns-in-Err-clause-stopped g c = reading_weaker Model c.args.slot c.args.name.now (IsTooLong Model) (RefusesModel c.args.vars) (too_long c.args.vars) _ _ c.in-Err.outcome c.in-Err.ensures.stopped
 
 pub returns-in-Err-clause-steady : goal.returns-in-Err-clause-steady
 returns-in-Err-clause-steady g c = λ steady is.
@@ -49,5 +49,5 @@ returns-clause-stopped g c =
     let name = c.args.name.now in
     let text = c.in-Ok.text in
     let first = subst (λ (xs : List ℕ). IsFaultOf (told c.args.vars xs) c.in-Err-read_model.fault) c.as_slice.ensures c.in-Err-read_model.ensures.fault in
-    subst (StopsReading Model 1 name (RefusesModel c.args.vars) a b) (sym c.model_refusal.ensures)
-    (stops_at c.args.vars name text a b c.in-Err-read_model.fault c.in-Ok.ensures.fetched c.in-Ok.ensures.text first)
+    subst (StopsReading Model c.args.slot name (RefusesModel c.args.vars) a b) (sym c.model_refusal.ensures)
+    (stops_at c.args.vars c.args.slot name text a b c.in-Err-read_model.fault c.in-Ok.ensures.fetched c.in-Ok.ensures.text first)

@@ -1,0 +1,96 @@
+//! Proving a solution optimal.
+ghost use Rattle.std.specs.Prelude.{◌≡◌, ◌≤◌, ◌^◌, length};
+ghost use Rattle.pb_base.specs.Problems.{IsWithinLimits};
+ghost use Rattle.pb_desk.specs.Desk.{IfTold, IsClosed};
+ghost use Rattle.pb_words.specs.OptimumWords.{as_optimum_words};
+ghost use Rattle.pb_words.specs.Parsed.Wanted.{Optimum};
+ghost use Rattle.pb_suite.specs.Implementing.{Implements};
+ghost use Rattle.pb_suite.specs.InTurn.{OpensInTurn};
+ghost use Rattle.pb_suite.specs.OptimumSpec.{optimum_spec, IsReached};
+ghost use Rattle.pb_suite.specs.inner.Optima.{HasFree, IsAimedAt};
+
+use crate::commands::decode::read_answer;
+use crate::commands::refute::refute_opened;
+use crate::opening::open_both;
+use crate::outcome::Outcome;
+use crate::reading::{bound_refusal, read_problem};
+use pb_base::{Failed, NoMemory, Problem};
+use pb_desk::Desk;
+use pb_model::{Decoded, Model, decode, objective_of, write_optimum};
+use pb_opb::bounded;
+use pb_words::OptimumArgs;
+use std::alloc::Global;
+
+// Has the texts refute that a solution is worth less than that of a model, and says it.
+fn prove_least<D: Desk>(
+    alloc: Global,
+    problem: Problem,
+    model: &Model,
+    asked: &OptimumArgs<'_>,
+    desk: &mut D,
+) -> Outcome
+    requires within { IsWithinLimits problem }
+    requires few { length problem.statements ≤ 2 ^ 24 }
+    requires covers { length model.now.values ≡ problem.vars }
+    requires free { HasFree (D.state desk.old) }
+    requires reached { IfTold (D.state desk.old) (λ t. IsReached t.shelf (as_optimum_words asked.now) problem model.now) }
+    ensures { Implements (optimum_spec (as_optimum_words asked.now)) (D.state desk.old) (D.state desk.new) result }
+{
+    let mut text = Vec::new(alloc);
+    match write_optimum(alloc, &problem, &model.values, &mut text) {
+        Ok(()) => {}
+        Err(NoMemory) => return Outcome::NoMemory,
+    }
+    let below = objective_of(&problem, &model.values) - 1;
+    let problem = match bounded(alloc, problem, below) {
+        Ok(problem) => problem,
+        Err(fault) => return bound_refusal(fault),
+    };
+    match open_both(asked.cnf, asked.proof, desk) {
+        Ok(()) => refute_opened(alloc, &problem, asked.lrat, &text, desk),
+        Err(Failed) => Outcome::ReadFault,
+    }
+}
+
+// Says the values of a model where they are a solution and none is worth less, or tells why not.
+fn prove_decoded<D: Desk>(
+    alloc: Global,
+    problem: Problem,
+    model: &Model,
+    asked: &OptimumArgs<'_>,
+    desk: &mut D,
+) -> Outcome
+    requires within { IsWithinLimits problem }
+    requires few { length problem.statements ≤ 2 ^ 24 }
+    requires covers { length model.now.values ≡ problem.vars }
+    requires free { HasFree (D.state desk.old) }
+    requires answered { IfTold (D.state desk.old) (λ t. IsAimedAt t.shelf (as_optimum_words asked.now) problem model.now) }
+    ensures { Implements (optimum_spec (as_optimum_words asked.now)) (D.state desk.old) (D.state desk.new) result }
+{
+    match decode(&problem, model) {
+        Decoded::NoModel => Outcome::NoModel,
+        Decoded::Violates { statement } => Outcome::NotASolution { statement },
+        Decoded::Solution => prove_least(alloc, problem, model, asked, desk),
+    }
+}
+
+/// Says the solution of a problem that a solver's model gives, where none is worth less. Its values are tested against each
+/// statement, and the other texts have to refute the problem with the bound one below its value.
+pub fn optimum_file<D: Desk>(alloc: Global, asked: &OptimumArgs<'_>, desk: &mut D) -> Outcome
+    requires closed { IsClosed (D.state desk.old) }
+    ensures implements { Implements (optimum_spec (as_optimum_words asked.now)) (D.state desk.old) (D.state desk.new) result }
+    ensures in_turn { OpensInTurn (Optimum (as_optimum_words asked.now)) (D.state desk.old) (D.state desk.new) }
+{
+    let problem = match read_problem(alloc, asked.opb, None, desk) {
+        Ok(problem) => problem,
+        Err(outcome) => return outcome,
+    };
+    if problem.objective.is_none() {
+        return Outcome::NoObjective;
+    }
+    let model = match read_answer(alloc, desk, 4, asked.model, problem.vars) {
+        Ok(model) => model,
+        Err(outcome) => return outcome,
+    };
+    prove_decoded(alloc, problem, &model, asked, desk)
+}

@@ -1,0 +1,57 @@
+# A solver's solution is said to be an optimum only where the other texts refute the problem with the bound one below its value.
+. "$top/tests/lib.sh"
+
+# One of two variables, each of which costs 1: the optimum is 1. The clauses with the bound 0 are `1 2`, `-1` and `-2`.
+text a.opb 'min: +1 x1 +1 x2 ;' '+1 x1 +1 x2 >= 1 ;'
+text best.model 's SATISFIABLE' 'v 1 -2 0'
+text worse.model 's SATISFIABLE' 'v 1 2 0'
+text a.lrat '4 0 2 3 1 0'
+fine encode a.opb a.cnf a.proof --at-most=0
+fine optimum a.opb best.model a.cnf a.proof a.lrat
+says 'o 1' 's OPTIMUM FOUND' 'v x1 -x2'
+fault 7 'PROOF line 5: not propagated' optimum a.opb worse.model a.cnf a.proof a.lrat
+fault 10 'LRAT line 1: no empty clause' optimum a.opb best.model a.cnf a.proof /dev/null
+
+# Files for another bound, and for none, and of another problem.
+fine encode a.opb other.cnf other.proof --at-most=1
+expect 7 pb optimum a.opb best.model other.cnf other.proof a.lrat
+fine encode a.opb other.cnf other.proof
+expect 1 pb optimum a.opb best.model other.cnf other.proof a.lrat
+text other.opb 'min: +1 x1 +1 x2 ;' '+1 x1 +1 x2 >= 2 ;'
+fault 8 'statement 1 is violated' optimum other.opb best.model a.cnf a.proof a.lrat
+expect 7 pb optimum other.opb worse.model a.cnf a.proof a.lrat
+says
+
+# Each text is lacking in turn; what comes before is told first.
+for place in 0 1 2 3 4; do
+    names=(a.opb best.model a.cnf a.proof a.lrat)
+    names[place]=missing
+    fault 4 'read fault' optimum "${names[@]}"
+done
+text aimless.opb '+1 x1 +1 x2 >= 1 ;'
+fault 1 'OPB: no objective' optimum aimless.opb missing none nothing nowhere
+fault 9 'no model' optimum a.opb /dev/null missing none nowhere
+fault 2 'usage: encode, check, decode, probe or bench' optimum a.opb best.model a.cnf a.proof a.cnf
+fault 2 'usage: encode, check, decode, probe or bench' optimum a.opb best.model a.cnf a.proof a.lrat --at-most=1
+
+# An empty objective is worth 0, and a value below zero has a bound below zero.
+text free.opb 'min: ;' '+1 x1 +1 x2 >= 1 ;'
+text free.lrat '3 0 2 0'
+fine encode free.opb free.cnf free.proof --at-most-minus=1
+fine optimum free.opb worse.model free.cnf free.proof free.lrat
+says 'o 0' 's OPTIMUM FOUND' 'v x1 x2'
+
+# The examples with an objective: the least costs 20, and 7, as MiniSat+ and clasp say, too.
+needs cadical python3
+for pair in guards:20 weights:7; do
+    opb=$examples/${pair%:*}.opb value=${pair#*:}
+    fine encode "$opb" o.cnf "--at-most=$value"
+    cadical -q o.cnf >o.model
+    fine encode "$opb" o.cnf o.proof "--at-most=$((value - 1))"
+    cadical -q --no-binary o.cnf o.drat >cadical.log
+    expect 0 "$examples/hints" o.cnf o.drat
+    cp "$said" o.lrat
+    fine optimum "$opb" o.model o.cnf o.proof o.lrat
+    head -n 2 "$said" >first
+    holds first "o $value" 's OPTIMUM FOUND'
+done
