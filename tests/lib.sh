@@ -64,6 +64,12 @@ pb() {
     "$pbcnf" "$@"
 }
 
+# limited LIMIT.. -- CMD..: runs the command within these limits, in the words of prlimit. No shell is within them, since it may want for
+# memory itself; and no environment, which would take a part of them, but the deed of the case `edge`.
+limited() {
+    env -i "PATH=$PATH" "WRONG_DEED=${WRONG_DEED-}" prlimit "$@"
+}
+
 # The words of a command, for a report.
 shown() {
     local word

@@ -47,12 +47,21 @@ for way in gone ignoring; do
     holds "$state/gone" 'pbcnf: write fault'
 done
 
+# The null device is an empty text, and takes everything.
+fine encode /dev/null n.cnf
+holds n.cnf 'p cnf 0 0'
+fine encode $opb /dev/null n.proof
+same o.proof n.proof
+fine encode $opb n.cnf /dev/null
+same o.cnf n.cnf
+
 # Files that may have 4,096 bytes at most, and too few numbers for open files.
+needs prlimit
 fine bench 1000 1 large.cnf
 short_files() {
     (
         trap '' XFSZ
-        ulimit -f 4 && "$pbcnf" "$@"
+        limited --fsize=4096 -- "$pbcnf" "$@"
     )
 }
 expect 5 short_files bench 1000 1 cut.cnf
@@ -70,17 +79,9 @@ expect 5 short_files bench 100 1 cut.cnf
 tells 'pbcnf: write fault'
 expect 0 is_front
 few_numbers() {
-    (ulimit -n 4 && "$pbcnf" "$@")
+    limited --nofile=4 -- "$pbcnf" "$@"
 }
 expect 5 few_numbers encode $opb n.cnf n.proof
 tells 'pbcnf: write fault'
 expect 4 few_numbers check $opb o.cnf o.proof
 tells 'pbcnf: read fault'
-
-# The null device is an empty text, and takes everything.
-fine encode /dev/null n.cnf
-holds n.cnf 'p cnf 0 0'
-fine encode $opb /dev/null n.proof
-same o.proof n.proof
-fine encode $opb n.cnf /dev/null
-same o.cnf n.cnf

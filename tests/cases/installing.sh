@@ -165,10 +165,6 @@ refused() {
     says
 }
 
-in_shell() {
-    ("$@")
-}
-
 # kept_at PLACE LINE..: it ends with 73 and such a line, and has put nothing.
 kept_at() {
     find "$1" | LC_ALL=C sort >before
@@ -206,13 +202,18 @@ try_faults() {
     fi
     # No room for the program; and a signal while it is copied.
     small_files() {
-        trap '' XFSZ
-        ulimit -f 8
-        install_copy "$1"
+        (
+            trap '' XFSZ
+            limited --fsize=8192 -- "$copy/install" "$1"
+        )
     }
-    expect 73 in_shell small_files six
-    says
-    told_of "$PWD/six/bin/pbcnf could not be written"
+    if has prlimit; then
+        expect 73 small_files six
+        says
+        told_of "$PWD/six/bin/pbcnf could not be written"
+    else
+        skip 'there is no prlimit'
+    fi
     mkdir plays
     text plays/cp '#!/bin/sh' 'kill -TERM "$PPID"' "exec $(command -v cp) \"\$@\""
     chmod 755 plays/cp

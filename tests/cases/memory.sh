@@ -1,8 +1,9 @@
 # Memory goes by the text, and not by the greatest number in it.
 . "$top/tests/lib.sh"
+needs prlimit
 
 within() {
-    (ulimit -v 16384 && "$pbcnf" "$@")
+    limited --as=$((1024 * 16384)) -- "$pbcnf" "$@"
 }
 
 # sparse WORD..: a command on texts with few of very many variables.

@@ -1,10 +1,11 @@
 # By how much memory goes with the texts that a command reads: what tests/rooms allows.
 . "$top/tests/lib.sh"
 . "$top/tests/problems.sh"
+needs prlimit
 
 # within KIB WORD..: the command has so much of addresses, and a small stack.
 within() {
-    (ulimit -s 256 && ulimit -v "$1" && "$pbcnf" "${@:2}")
+    limited --as=$((1024 * $1)) --stack=$((1024 * 256)) -- "$pbcnf" "${@:2}"
 }
 
 # What a run takes whose texts are a few bytes: mostly the program and the C library themselves.

@@ -16,8 +16,9 @@ last='five runs of bench 1 0'
 if is_quick; then passed; else failed "$last: wanted less than 150 ms"; fi
 
 # All that a run takes besides the texts is a few MiB of addresses, and a small stack.
+needs prlimit
 narrow() {
-    (ulimit -s 128 && ulimit -v 8192 && "$pbcnf" "$@")
+    limited --as=$((1024 * 8192)) --stack=$((1024 * 128)) -- "$pbcnf" "$@"
 }
 well narrow bench 1 0 o.cnf
 text one.opb '+1 x1 +1 x2 >= 1 ;' '+1 ~x1 >= 1 ;' '+1 ~x2 >= 1 ;'
