@@ -53,14 +53,14 @@ fn report_of(alloc: Global, kind: Kind, opb: &str) -> Option<String> {
 
 // Families and statements, and what is due of their derivations: the number of lines, and then how many of them may be left out
 // (those that delete), be empty (these, and constraints of which no clause has need), give way to the sum (at most one implies each
-// clause of two of its literals), or to what was put out before (a unit implies a clause with its literal).
+// clause of two of its literals), or to what was put out before.
 const CASES: &[(Kind, &str, &str)] = &[
     (Kind::Pairs, THREE, "9: 0 0 3 0"),
     (Kind::Pairs, SIX, "33: 0 0 15 0"),
     (Kind::Ladder, THREE, "19: 2 2 0 0"),
     (Kind::Ladder, SIX, "46: 5 5 0 0"),
     (Kind::Grid, SIX, "54: 7 6 0 0"),
-    (Kind::Counter, FOUR, "47: 6 8 0 1"),
+    (Kind::Counter, FOUR, "67: 5 5 0 0"),
     (Kind::Totalizer, FOUR, "52: 7 9 0 0"),
     (Kind::Totalizer, FIVE, "80: 11 14 0 0"),
     (Kind::Diagram, FALLING, "22: 3 3 0 0"),
