@@ -59,6 +59,21 @@ needs_compiler() {
     fi
 }
 
+# wait_until CMD..: waits until the command succeeds, for five minutes at most.
+wait_until() {
+    local turn
+    for turn in {1..3000}; do
+        ! "$@" 2>"$state/waits" || return 0
+        sleep 0.1
+    done
+    return 1
+}
+
+# Whether no process of this number runs. One that has ended, and that nobody has asked about, does not.
+has_ended() {
+    ! kill -0 "$1" 2>"$state/kill" || grep -q '^State:.*Z' "/proc/$1/status" 2>"$state/kill"
+}
+
 # The program.
 pb() {
     "$pbcnf" "$@"

@@ -103,7 +103,7 @@ says
 proved pb_left pb_low pb_right pbcnf
 holds "$program" '// pbcnf'
 told_of '^build: 4 of 4 crates to prove: about a minute on 3 processors'
-told_of '^build: proved pbcnf in . s: 4 of 4 crates, 100 % of the work$'
+told_of '^build: proved pbcnf in [0-9]* s: 4 of 4 crates, 100 % of the work$'
 expect 0 build
 proved pbcnf_c
 told_of '^build: the program: there is none in release/'
@@ -202,13 +202,7 @@ begin() {
     : >"$kit/log"
     PATH=$kit/bin:$PWD/bin "$copy/build" --program 2>"$1" &
     begun=$!
-    wait_for 'begin pb_left' "$kit/log"
-}
-wait_for() {
-    local turn
-    for turn in {1..50}; do
-        grep -q "$1" "$2" || sleep 0.1
-    done
+    wait_until grep -q 'begin pb_left' "$kit/log"
 }
 
 # One that is ended ends what it began, and leaves no stamp.
@@ -218,14 +212,14 @@ kill -TERM $begun
 wait $begun
 expect 0 test $? -eq 143
 noted 'begin pb_left'
-expect 1 kill -0 "$(cat "$kit/process")"
+expect 0 has_ended "$(cat "$kit/process")"
 absent "$copy/crates/pb_left/out/rlib/stamp"
 
 # Another one waits for it.
 begin first
 PATH=$kit/bin:$PWD/bin "$copy/build" --program 2>second &
 second=$!
-wait_for waiting second
+wait_until grep -q waiting second
 last='two builds at once'
 holds second 'build: waiting for another build to end'
 noted 'begin pb_left'

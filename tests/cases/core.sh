@@ -55,16 +55,16 @@ expect 0 "$core" "$examples/choice.opb" --solver newer/cadical
 
 # A signal ends it and all that it has started, and nothing is left.
 mkdir bin
-text bin/cadical '#!/bin/sh' "[ \"\$1\" = --help ] && exit" "echo \$\$ >'$PWD/started'" 'exec sleep 60'
+text bin/cadical '#!/bin/sh' "[ \"\$1\" = --help ] && exit" "echo \$\$ >'$PWD/started'" 'exec sleep 1000'
 chmod 755 bin/cadical
 "$core" "$examples/pigeons.opb" --solver "$PWD/bin/cadical" >"$said" 2>"$told" &
-for _ in $(seq 100); do [ ! -s started ] || break; sleep 0.1; done
+wait_until test -s started
 kill -TERM $!
 wait $!
 status=$?
 last='core, ended by SIGTERM'
 if [ $status -eq 143 ]; then passed; else failed "$last: wanted the status 143, got $status"; fi
 says
-if kill -0 "$(cat started)" 2>"$state/kill"; then failed "$last: its solver still runs"; else passed; fi
+if has_ended "$(cat started)"; then passed; else failed "$last: its solver still runs"; fi
 expect 0 ls room
 says

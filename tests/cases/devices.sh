@@ -79,7 +79,7 @@ expect 5 short_files bench 100 1 cut.cnf
 tells 'pbcnf: write fault'
 expect 0 is_front
 few_numbers() {
-    limited --nofile=4 -- "$pbcnf" "$@"
+    limited --nofile=4 -- "$pbcnf" "$@" 3>&-
 }
 expect 5 few_numbers encode $opb n.cnf n.proof
 tells 'pbcnf: write fault'

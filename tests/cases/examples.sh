@@ -230,16 +230,15 @@ mkdir temporary
 export TMPDIR=$PWD/temporary
 expect 0 "$minimize" "$opb"
 expect 0 "$solve" "$opb"
-printf '#!/bin/sh\nexec sleep 60\n' >plays/cadical
+text plays/cadical '#!/bin/sh' '[ "$1" != --help ] || exit' "echo called >'$PWD/called'" 'exec sleep 1000'
 rm plays/drat-trim
 chmod +x plays/cadical
 for command in solve minimize; do
+    rm -f called
     PATH=$PWD/plays:$PATH "$examples/$command" "$opb" >slow.said 2>slow.told &
     slow=$!
-    for wait in 1 2 3 4 5 6 7 8 9 10; do
-        sleep 0.2
-        [ -z "$(find temporary -name cnf -size +0)" ] || break
-    done
+    wait_until test -s called
+    expect 0 test -n "$(find temporary -type f -size +0)"
     kill "$slow"
     wait "$slow"
     last="$command, ended" status=$?

@@ -29,9 +29,12 @@ fault 3 'totals: limit variables' encode text o.cnf --amo ladder
 absent o.cnf
 
 # Limits that only long texts pass. The bytes of one are not all there: what a file has none for is read as zeros.
-truncate -s 4294967297 long
-fault 3 'OPB: limit text' map long
-rm long
+if truncate -s 4294967297 long 2>"$state/truncate"; then
+    fault 3 'OPB: limit text' map long
+    rm long
+else
+    skip 'the file system has no file of more than four GiB'
+fi
 yes '>=0;' | head -n 16777217 >text
 fault 3 'OPB 16777217:1: limit statements' map text
 awk 'BEGIN { for (i = 0; i <= 1048576; i++) printf "+1 x1 "; print ">= 1 ;" }' >text

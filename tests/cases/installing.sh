@@ -191,14 +191,14 @@ try_faults() {
     chmod 555 three
     if [ "$(id -u)" -ne 0 ]; then
         kept_at three "$PWD/three/bin/pbcnf could not be written"
-    elif has setpriv; then
+    elif setpriv --reuid=65534 --regid=65534 --clear-groups test -r "$copy/install" 2>"$state/setpriv"; then
         expect 73 setpriv --reuid=65534 --regid=65534 --clear-groups "$copy/install" "$PWD/three"
         says
         told_of "$PWD/three/bin/pbcnf could not be written"
         expect 0 find three -mindepth 1
         says
     else
-        skip 'there is no setpriv'
+        skip "no other user can read the copy: $(bytes_of "$state/setpriv")"
     fi
     # No room for the program; and a signal while it is copied.
     small_files() {
@@ -310,13 +310,13 @@ try_faults
 if has python3; then try_commands; else skip 'there is no python3'; fi
 try_missing
 
-if has man; then
+if has man && has groff; then
     for page in "$top"/docs/*.1; do
         expect 0 env MANPAGER=cat man --warnings -l "$page"
         tells
     done
 else
-    skip 'there is no man'
+    skip 'there is no man, or no groff'
 fi
 
 completed pbcnf ''

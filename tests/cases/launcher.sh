@@ -286,14 +286,12 @@ runs
 
 # A build that is ended ends the launcher, which ends it.
 rm "$copy/$built"
-builds "echo \$\$ >'$PWD/number'" 'exec sleep 20'
+builds "echo \$\$ >'$PWD/number'" 'exec sleep 1000'
 rm -f number
 PATH=$PWD/bin "$copy/pbcnf" bench 1 0 2>"$told" &
 launcher=$!
-for _ in 1 2 3 4 5 6 7 8 9 10 11 12; do
-    [ -s number ] || sleep 0.2
-done
+wait_until test -s number
 kill -TERM $launcher
 wait $launcher
 expect 0 test $? -eq 143
-expect 1 kill -0 "$(cat number)"
+expect 0 has_ended "$(cat number)"

@@ -33,10 +33,22 @@ compile_beside() {
     expect 0 "$compiler" -std=c11 -Wall -Wextra -Wpedantic -Werror -O1 -I "$library" "$own/$1.c" "$own/$2.c" -o "$1"
 }
 
-# makes FLAG..: whether the compiler makes a program with these flags that runs.
+# Runs a program. The places of its memory are the same each time, where the system has that: some of those that are drawn are none for a
+# sanitizer.
+steadily() {
+    "${steady[@]}" "$@"
+}
+steady=()
+if has setarch && setarch -R true 2>"$state/setarch"; then steady=(setarch -R); fi
+
+# makes FLAG..: whether the compiler makes a program with these flags that runs, whatever places of its memory are drawn.
 makes() {
+    local run
     echo 'int main(void) { return 0; }' >try.c
-    "$compiler" try.c "$@" -o try 2>"$state/cc" && ./try 2>>"$state/cc"
+    "$compiler" try.c "$@" -o try 2>"$state/cc" || return
+    for run in {1..20}; do
+        steadily ./try 2>>"$state/cc" || return
+    done
 }
 
 # The header stands by itself, in C and C++.
@@ -142,15 +154,15 @@ try_programs() {
     judged ./nulls
     if makes -fsanitize=address,undefined; then
         compile rooms -fsanitize=address,undefined
-        judged ./rooms
+        judged steadily ./rooms
         compile misuse -fsanitize=address,undefined
-        judged ./misuse
+        judged steadily ./misuse
     else
         skip "$compiler has no AddressSanitizer"
     fi
     if makes -fsanitize=thread; then
         compile threads -fsanitize=thread -pthread
-        judged ./threads
+        judged steadily ./threads
     else
         skip "$compiler has no ThreadSanitizer"
     fi

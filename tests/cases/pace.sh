@@ -3,58 +3,54 @@
 . "$top/tests/lib.sh"
 . "$top/tests/problems.sh"
 
-# spend RUNS: sets $spent to the milliseconds of the best of so many runs of the command in $words, each of which has to end well.
+# spend COMMAND PROBLEM SIZE: sets $spent to the milliseconds of a run, in the folder of this size. It has to end well.
 spend() {
-    local run now
     local TIMEFORMAT='%U %S'
+    words_of "$@"
     spent=
+    { time (cd "$3" && exec "$pbcnf" "${words[@]}") >"$said" 2>"$told"; } 2>"$state/time" && [ -s "$said" ] || return
+    spent=$(awk '{ printf "%d", ($1 + $2) * 1000 }' "$state/time")
+}
+
+# best RUNS COMMAND PROBLEM SIZE: lowers $least to what the best of so many runs takes.
+best() {
+    local run
     for ((run = 0; run < $1; run++)); do
-        if ! { time pb "${words[@]}" >"$said" 2>"$told"; } 2>"$state/time" || [ ! -s "$said" ]; then
-            spent=
-            return
-        fi
-        now=$(awk '{ printf "%d", ($1 + $2) * 1000 }' "$state/time")
-        if [ -z "$spent" ] || [ "$now" -lt "$spent" ]; then spent=$now; fi
+        spend "${@:2}" || return
+        [ "$least" -le "$spent" ] || least=$spent
     done
 }
 
-# is_within MS: whether a run of the command takes no longer; on a machine that does much else, one of eight, a second apart.
-is_within() {
-    local least=
-    for _ in 1 2 3 4 5 6 7 8; do
-        spend 1
-        [ -n "$spent" ] || return
-        if [ -z "$least" ] || [ "$spent" -lt "$least" ]; then least=$spent; fi
-        [ "$spent" -gt "$1" ] || return 0
-        sleep 1
+# is_even COMMAND PROBLEM SIZE: whether the best run takes no more than nine times as long on four times the size. On a machine that does
+# much else that is seen after some runs of both, with longer and longer pauses.
+is_even() {
+    local turn least
+    small=1000000 large=1000000
+    for turn in {0..12}; do
+        sleep "$turn"
+        least=$small && best 3 "$@" && small=$least || return
+        least=$large && best 1 "$1" "$2" $((4 * $3)) && large=$least || return
+        [ "$large" -gt $((9 * small + 20)) ] || return 0
     done
-    spent=$least
     return 1
 }
 
 # keeps_pace PROBLEM SIZE COMMAND..: each of the commands does, on a problem of this size and of four times that.
 keeps_pace() {
-    local problem=$1 size=$2 command
-    local -A before=()
-    shift 2
-    $problem "$size"
-    for command in "$@"; do
-        words_of "$command" "$problem" "$size"
-        spend 3
-        before[$command]=$spent
+    local problem=$1 command size small large
+    for size in "$2" $((4 * $2)); do
+        mkdir "$size"
+        (cd "$size" && $problem "$size")
     done
-    size=$((4 * size))
-    $problem "$size"
-    for command in "$@"; do
-        words_of "$command" "$problem" "$size"
+    for command in "${@:3}"; do
         last="$command of $problem $size"
-        if [ -n "${before[$command]}" ] && is_within $((9 * before[$command] + 20)); then
+        if is_even "$command" "$problem" "$2"; then
             passed
         else
-            failed "$last: wanted at most nine times ${before[$command]:-no end} ms, got ${spent:-no end} ms"
+            failed "$last: wanted at most nine times $small ms, got $large ms; the last run took ${spent:-no end} ms"
         fi
     done
-    rm -f "$problem".*
+    rm -r "$2" "$size"
 }
 keeps_pace clauses 60000 derive check
 keeps_pace five 150000 encode

@@ -43,7 +43,7 @@ told_of '20 <= objective <= 20'
 expect 0 examples/minimize examples/weights.opb --general tree
 has_lines 'o 7' 's OPTIMUM FOUND'
 
-# It is interrupted in the middle of a hard problem: fields in a square, each with a lamp in sight.
+# It is interrupted in the middle of a hard problem, once it has found a solution: fields in a square, each with a lamp in sight.
 awk -v n=20 'BEGIN {
     line = "min:"
     for (i = 1; i <= n * n; i++) line = line " +" 90 + i * i % 17 " x" i
@@ -57,12 +57,17 @@ awk -v n=20 'BEGIN {
         print line " >= 1 ;"
     }
 }' >lamps.opb
+# Of what runs in the background a shell has SIGINT ignored.
 interrupted() {
     mkdir "tmp.$1"
-    TMPDIR=$PWD/tmp.$1 timeout --preserve-status -s "$1" 8 examples/minimize lamps.opb
+    : >number
+    { wait_until test -s number && wait_until grep -q '^o ' "$said" && kill -s "$1" "$(cat number)"; } >killed 2>&1 &
+    TMPDIR=$PWD/tmp.$1 sh -c 'echo $$ >number && exec examples/minimize lamps.opb'
     echo "ended with $?; left: $(ls -A "tmp.$1")"
+    wait
 }
 for name in INT TERM; do
+    : >"$said"
     expect 0 interrupted $name
     has_lines 's SATISFIABLE' 'ended with 75; left: '
     grep '^o ' "$said" | tail -n 1 >best

@@ -135,9 +135,7 @@ source_is pb_left lib '// long'
 : >"$kit/log"
 quick >first &
 first=$!
-for _ in 1 2 3 4 5 6 7 8 9 10; do
-    grep -q 'begin pb_left' "$kit/log" || sleep 0.5
-done
+wait_until grep -q 'begin pb_left' "$kit/log"
 kill -TERM $first
 wait $first
 expect 0 test $? -eq 143

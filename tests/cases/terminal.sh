@@ -3,7 +3,7 @@
 
 needs python3
 cat >terminal.py <<'END_OF_PYTHON'
-"""Runs a command at a terminal of its own that gives a text and one end of input, and prints what comes; at most ten seconds."""
+"""Runs a command at a terminal of its own that gives a text and one end of input, and prints what comes; at most two minutes."""
 import os
 import pty
 import select
@@ -20,8 +20,8 @@ termios.tcsetattr(theirs, termios.TCSANOW, settings)
 run = subprocess.Popen(sys.argv[2:], stdin=theirs, stdout=theirs, stderr=theirs)
 os.close(theirs)
 os.write(ours, sys.argv[1].encode() + b"\n\x04")
-ends = time.time() + 10
-while select.select([ours], [], [], max(0, ends - time.time()))[0]:
+ends = time.monotonic() + 120
+while select.select([ours], [], [], max(0, ends - time.monotonic()))[0]:
     try:
         piece = os.read(ours, 4096)
     except OSError:

@@ -104,19 +104,19 @@ expect 0 pb encode in three.cnf
 same summary "$said"
 same o.cnf three.cnf
 kill $! 2>"$state/kill"
-# What is made goes to a reader, which has all once the program has ended; at most two seconds later.
+# What is made goes to a reader, which has all and ends once the program has ended. One for which the program has not opened the FIFO ends
+# where that is opened here.
 made_for() {
-    local reader turn
+    local reader
     cat out >"$1" &
     reader=$!
     shift
     expect 0 pb "$@"
     same summary "$said"
-    for turn in {1..20}; do
-        kill -0 $reader 2>"$state/kill" || return
+    until has_ended $reader; do
+        : <>out
         sleep 0.1
     done
-    kill $reader
 }
 made_for four.cnf encode "$opb" out
 same o.cnf four.cnf

@@ -70,7 +70,7 @@ def fail(does):
     if does == "stubborn":
         signal.signal(signal.SIGTERM, signal.SIG_IGN)
     if does in ("hang", "stubborn"):
-        time.sleep(60)
+        time.sleep(900)
     if does == "lie":
         print("s UNSATISFIABLE")
         sys.exit(20)

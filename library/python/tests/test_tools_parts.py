@@ -48,41 +48,48 @@ class Running(Folder):
     def test_limit_of_one_run(self):
         with Watch() as watch:
             began = time.monotonic()
-            self.assertIsNone(watch.run(["sleep", "30"], seconds=0.1))
-            self.assertLess(time.monotonic() - began, 5)
+            self.assertIsNone(watch.run(["sleep", "900"], seconds=0.1))
+            self.assertLess(time.monotonic() - began, 300)
             self.assertEqual(watch.run(["true"]), 0)
 
     def test_limit_of_all_runs(self):
         with Watch(0.1) as watch:
             with self.assertRaises(Interrupted) as raised:
-                watch.run(["sleep", "30"])
+                watch.run(["sleep", "900"])
             self.assertIsNone(raised.exception.signal)
             with self.assertRaises(Interrupted):
                 watch.run(["true"])
 
     def test_signals_end_the_program_and_what_it_started(self):
         for number in (signal.SIGHUP, signal.SIGINT, signal.SIGTERM):
-            left = os.path.join(self.folder, "pid")
-            threading.Timer(0.3, os.kill, (os.getpid(), number)).start()
+            left = os.path.join(self.folder, number.name)
+            threading.Thread(target=self.kill_behind, args=(left, number)).start()
             with Watch() as watch, self.assertRaises(Interrupted) as raised:
                 # The inner one stays at SIGTERM.
-                watch.run(["sh", "-c", "sh -c 'trap \"\" TERM; echo $$ >%s; sleep 30; sleep 30' & wait" % left])
+                watch.run(["sh", "-c", "sh -c 'trap \"\" TERM; echo $$ >%s; sleep 900; sleep 900' & wait" % left])
             self.assertEqual(raised.exception.signal, number)
             with open(left) as file:
                 pid = int(file.read())
             self.assertTrue(gone(pid), "what the program started still runs")
 
+    def kill_behind(self, file, number):
+        """Sends this process a signal once the file is written."""
+        while not os.path.exists(file) or not os.path.getsize(file):
+            time.sleep(0.01)
+        os.kill(os.getpid(), number)
+
     def test_several_at_once(self):
         with Watch() as watch:
-            slow, fast = watch.start(["sleep", "30"]), watch.start(["sh", "-c", "sleep 0.1; exit 3"])
-            limited = watch.start(["sleep", "30"], seconds=0.5)
-            self.assertIs(watch.wait([slow, fast, limited]), fast)
-            self.assertIs(watch.wait([slow, limited]), limited)
+            slow, fast = watch.start(["sleep", "900"]), watch.start(["sh", "-c", "sleep 0.1; exit 3"])
+            patient = watch.start(["sleep", "900"], seconds=600)
+            self.assertIs(watch.wait([slow, fast, patient]), fast)
+            limited = watch.start(["sleep", "900"], seconds=0.5)
+            self.assertIs(watch.wait([slow, limited, patient]), limited)
             self.assertEqual((fast.status, limited.status, slow.status), (3, None, None))
             watch.end(limited)
             watch.end_all()
             self.assertTrue(gone(slow.child.pid))
-            left = watch.start(["sleep", "30"])
+            left = watch.start(["sleep", "900"])
         self.assertTrue(gone(left.child.pid), "what was left at the end still runs")
 
     def test_handlers_are_as_before(self):
@@ -93,8 +100,8 @@ class Running(Folder):
 
 
 def gone(pid):
-    """Whether a process ends within some seconds; a zombie that nobody waits for has ended."""
-    for _ in range(200):
+    """Whether a process ends within a minute; a zombie that nobody waits for has ended."""
+    for _ in range(3000):
         try:
             with open("/proc/%d/stat" % pid) as file:
                 if file.read().rpartition(") ")[2][0] == "Z":
@@ -376,14 +383,16 @@ class Descents(Folder):
 
     def test_heard_while_another_runs(self):
         with Watch() as watch:
-            speaks = watch.start(["sh", "-c", "echo one; sleep 0.2; echo two; exec sleep 0.2"], is_heard=True)
-            other = watch.start(["sleep", "30"])
-            heard = []
-            while speaks.status is None:
+            # It goes on when the first word is heard, and ends when the second one is.
+            words = "echo one; until [ -e one ]; do sleep 0.01; done; echo two; until [ -e two ]; do sleep 0.01; done"
+            speaks = watch.start(["sh", "-c", 'cd "$0" && ' + words, self.folder], is_heard=True)
+            other = watch.start(["sleep", "900"])
+            for word in ("one", "two"):
                 self.assertIs(watch.wait([other, speaks]), speaks)
-                heard.append(speaks.take())
-            self.assertEqual((b"".join(heard), speaks.status), (b"one\ntwo\n", 0))
-            self.assertGreaterEqual(len(heard), 3)
+                self.assertEqual((speaks.take(), speaks.status), (word.encode() + b"\n", None))
+                self.put(word, b"")
+            self.assertIs(watch.wait([other, speaks]), speaks)
+            self.assertEqual((speaks.take(), speaks.status), (b"", 0))
 
 
 class Lines(Folder):
