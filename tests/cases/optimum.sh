@@ -41,17 +41,48 @@ fine encode free.opb free.cnf free.proof --at-most-minus=1
 fine optimum free.opb worse.model free.cnf free.proof free.lrat
 says 'o 0' 's OPTIMUM FOUND' 'v x1 x2'
 
-# The examples with an objective: the least costs 20, and 7, as MiniSat+ and clasp say, too.
+# Where a solver is there, so are the optima of problems, which MiniSat+ and clasp found, too.
 needs cadical python3
-for pair in guards:20 weights:7; do
-    opb=$examples/${pair%:*}.opb value=${pair#*:}
-    fine encode "$opb" o.cnf "--at-most=$value"
-    cadical -q o.cnf >o.model
-    fine encode "$opb" o.cnf o.proof "--at-most=$((value - 1))"
+export PBCNF=$pbcnf PYTHONDONTWRITEBYTECODE=1
+
+# at_most VALUE: the option for a bound.
+at_most() {
+    if [ "$1" -lt 0 ]; then printf -- '--at-most-minus=%d' "$((-$1))"; else printf -- '--at-most=%d' "$1"; fi
+}
+
+# worth OPB VALUE MODEL: has the solver look for a solution of just this value.
+worth() {
+    { sed '/^\* #variable/d' "$1" && sed -n "s/^min: *\(.*\);/\1 = $2 ;/p" "$1"; } >worth.opb
+    fine encode worth.opb worth.cnf
+    cadical -q worth.cnf >"$3"
+    grep -qx 's SATISFIABLE' "$3" || failed "no solution of $1 is worth $2"
+}
+
+# proves OPB VALUE NEXT: the least value is found to be an optimum beside what refutes a lower one, and the next value is not.
+proves() {
+    local opb=$1 value=$2 next=$3
+    worth "$opb" "$value" best.model
+    worth "$opb" "$next" worse.model
+    fine encode "$opb" o.cnf o.proof "$(at_most "$((value - 1))")"
     cadical -q --no-binary o.cnf o.drat >cadical.log
     expect 0 "$examples/hints" o.cnf o.drat
     cp "$said" o.lrat
-    fine optimum "$opb" o.model o.cnf o.proof o.lrat
+    fine optimum "$opb" best.model o.cnf o.proof o.lrat
     head -n 2 "$said" >first
     holds first "o $value" 's OPTIMUM FOUND'
-done
+    expect 7 pb optimum "$opb" worse.model o.cnf o.proof o.lrat
+    says
+}
+
+proves "$examples/guards.opb" 20 22
+proves "$examples/weights.opb" 7 8
+expect 0 python3 -B "$top/bench/instances.py" small problems
+proves problems/timetable_12.opb 0 1
+expect 0 env PYTHONPATH="$top/bench" python3 -B -c '
+import instances
+for name in "covering 40", "schedule 13", "vertex cover 50":
+    with open(name.replace(" ", "_") + ".opb", "w") as file:
+        file.write(instances.SOLVED[name][0]().text())'
+proves covering_40.opb 117 118
+proves schedule_13.opb 1 4
+proves vertex_cover_50.opb 27 28

@@ -1,12 +1,14 @@
 //! Proving a solution optimal.
-ghost use Rattle.std.specs.Prelude.{◌≡◌, ◌≤◌, ◌^◌, length};
+ghost use Rattle.std.specs.Prelude.{◌≡◌, ◌≤◌, ◌<◌, ◌^◌, length, IfOk, IsErrOf, OnOk};
 ghost use Rattle.pb_base.specs.Problems.{IsWithinLimits};
 ghost use Rattle.pb_desk.specs.Desk.{IfTold, IsClosed};
+ghost use Rattle.pb_opb.specs.Bounded.{bound_weight, bounded};
+ghost use Rattle.pb_opb.specs.declared.bound.BoundFault.TheVariants as fault;
 ghost use Rattle.pb_words.specs.OptimumWords.{as_optimum_words};
 ghost use Rattle.pb_words.specs.Parsed.Wanted.{Optimum};
 ghost use Rattle.pb_suite.specs.Implementing.{Implements};
 ghost use Rattle.pb_suite.specs.InTurn.{OpensInTurn};
-ghost use Rattle.pb_suite.specs.OptimumSpec.{optimum_spec, IsReached};
+ghost use Rattle.pb_suite.specs.OptimumSpec.{next_below, optimum_spec, IsReached};
 ghost use Rattle.pb_suite.specs.inner.Optima.{HasFree, IsAimedAt};
 
 use crate::commands::decode::read_answer;
@@ -17,9 +19,23 @@ use crate::reading::{bound_refusal, read_problem};
 use pb_base::{Failed, NoMemory, Problem};
 use pb_desk::Desk;
 use pb_model::{Decoded, Model, decode, objective_of, write_optimum};
-use pb_opb::bounded;
+use pb_opb::{BoundFault, bounded};
 use pb_words::OptimumArgs;
 use std::alloc::Global;
+
+// The problem with the bound that is one below the value of a solution.
+fn bounded_below(alloc: Global, problem: Problem, model: &Model) -> Result<Problem, BoundFault>
+    requires within { IsWithinLimits problem }
+    requires few { length problem.statements ≤ 2 ^ 24 }
+    requires covers { length model.now.values ≡ problem.vars }
+    ensures ok { IfOk result (λ p. p ≡ bounded problem (next_below problem model.now)) }
+    ensures within { IfOk result IsWithinLimits }
+    ensures light { OnOk result (bound_weight problem (next_below problem model.now) < 2 ^ 100) }
+    ensures heavy { IsErrOf result fault.Weight → 2 ^ 100 ≤ bound_weight problem (next_below problem model.now) }
+{
+    let below = objective_of(&problem, &model.values) - 1;
+    bounded(alloc, problem, below)
+}
 
 // Has the texts refute that a solution is worth less than that of a model, and says it.
 fn prove_least<D: Desk>(
@@ -41,8 +57,7 @@ fn prove_least<D: Desk>(
         Ok(()) => {}
         Err(NoMemory) => return Outcome::NoMemory,
     }
-    let below = objective_of(&problem, &model.values) - 1;
-    let problem = match bounded(alloc, problem, below) {
+    let problem = match bounded_below(alloc, problem, model) {
         Ok(problem) => problem,
         Err(fault) => return bound_refusal(fault),
     };

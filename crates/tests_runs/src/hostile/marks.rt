@@ -1,6 +1,7 @@
 //! The marks that are due of texts that are broken: they were not taken from runs; another program gave them, written from the
-//! description of the formats. The first line is of the text cut before each of its bytes, and then whole; the others have each
-//! byte replaced by a blank, `;`, a digit, a letter and a byte of no text.
+//! description of the formats, and those of an optimum an older `decode` and `refute`, one after the other. The first line is of
+//! the text cut before each of its bytes, and then whole; the others have each byte replaced by a blank, `;`, a digit, a letter and
+//! a byte of no text.
 
 pub const ENCODED: &str = "\
 0000000000000000000000000000000111111111110011111111111111111100\n\
@@ -97,3 +98,19 @@ aaaaa1111111111aa11111111aa1111111100\n\
 100aaa1111aaa11101110001110111aaa111\n\
 100a11111111111111111111111111111111\n\
 100a11111111111111111111111111111111";
+
+pub const OPTIMUM_PROBLEMS: &str = "\
+111111111111111111111111111111111111100\n\
+11110010110010110100101800101101101010\n\
+11111111111111111011111111111111111101\n\
+11111771111001111110011810011111188811\n\
+11111111011111011111110818110111111111\n\
+11111111111111111111111111111111111111";
+
+pub const OPTIMUM_MODELS: &str = "\
+999999999999988111111100\n\
+10999999999999108071010\n\
+11999999999999111111111\n\
+11999999999999118100111\n\
+11999999999999111111111\n\
+11999999999999111111111";

@@ -27,7 +27,7 @@ returns-in-Accepted g c =
     (subst (λ (v : Verdict). IfTold d (λ t. IsKept v (t.left 1) found.1 found.2)) c.in-Accepted.is c.in-Ok.ensures.kept)
     c.check_refutation.ensures
 
-pub returns : goal.returns
-returns g c =
+pub returns-in-Rejected : goal.returns-in-Rejected
+returns-in-Rejected g c =
     rejected c.in-Rejected.line c.in-Rejected.denied
     (subst (λ (v : Verdict). TakesBoth 1 2 (λ x y. Walk c.args.problem.now x y (Ok v)) (g.D.Desk.state c.args.desk.now) (g.D.Desk.state c.check_kept.new.desk)) c.in-Rejected.is c.in-Ok.ensures.verdict)
