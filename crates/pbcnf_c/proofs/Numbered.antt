@@ -1,7 +1,8 @@
 -- An outcome is told by its numbers.
 use Rattle.std.proofs.Common.{◌≡◌, ◌≤◌, ◌∙◌, ℕ, Bool, true, false, Option, Some, None, ap, arith, refl, subst, sym}
 use Rattle.std.proofs.Math.Dec.{T, eqb, eqb_refl}
-use Rattle.std.specs.Prelude.{◌==◌, ◌&&◌, option_and_then, if◌then◌else◌}
+use Rattle.std.proofs.lemmas.Bool.{eqb-true}
+use Rattle.std.specs.Prelude.{IfSome, ◌==◌, ◌&&◌, option_and_then, if◌then◌else◌}
 use Rattle.std.specs.Option.{option_map}
 use Rattle.pb_base.specs.declared.expected.Expected.{Expected}
 use Rattle.pb_base.specs.declared.file.File.{File}
@@ -128,3 +129,36 @@ not_other r told o numbers same proper is are found compared differs =
     let here : told ≡ r = ap (given r) (sym found ∙ are ∙ numbers_back r o proper is) in
     let holds : same ≡ true = compared ∙ ap (λ (s : PbcnfRefusal). all_equal s r) here ∙ equal r in
     cc
+
+-- and numbers that are all equal are the same
+both_true : (a b : Bool) → (a && b) ≡ true → (a ≡ true) × (b ≡ true)
+both_true true b is = (refl, is)
+both_true false b is = cc
+
+abbrev numbered : (line column number status file expected limit denied unproved : ℕ) → PbcnfRefusal
+numbered line column number status file expected limit denied unproved = record { line = line; column = column; number = number; status = status; file = file; expected = expected; limit = limit; denied = denied; unproved = unproved }
+
+same_numbers : (a b : PbcnfRefusal) → all_equal a b ≡ true → a ≡ b
+same_numbers a b is =
+    let line_is = both_true (eqb a.line b.line) _ is in
+    let column_is = both_true (eqb a.column b.column) _ line_is.1 in
+    let number_is = both_true (eqb a.number b.number) _ column_is.1 in
+    let status_is = both_true (eqb a.status b.status) _ number_is.1 in
+    let file_is = both_true (eqb a.file b.file) _ status_is.1 in
+    let expected_is = both_true (eqb a.expected b.expected) _ file_is.1 in
+    let limit_is = both_true (eqb a.limit b.limit) _ expected_is.1 in
+    let denied_is = both_true (eqb a.denied b.denied) _ limit_is.1 in
+    ap (λ (n : ℕ). numbered n a.column a.number a.status a.file a.expected a.limit a.denied a.unproved) (eqb-true a.line b.line line_is.0)
+    ∙ ap (λ (n : ℕ). numbered b.line n a.number a.status a.file a.expected a.limit a.denied a.unproved) (eqb-true a.column b.column column_is.0)
+    ∙ ap (λ (n : ℕ). numbered b.line b.column n a.status a.file a.expected a.limit a.denied a.unproved) (eqb-true a.number b.number number_is.0)
+    ∙ ap (λ (n : ℕ). numbered b.line b.column b.number n a.file a.expected a.limit a.denied a.unproved) (eqb-true a.status b.status status_is.0)
+    ∙ ap (λ (n : ℕ). numbered b.line b.column b.number b.status n a.expected a.limit a.denied a.unproved) (eqb-true a.file b.file file_is.0)
+    ∙ ap (λ (n : ℕ). numbered b.line b.column b.number b.status b.file n a.limit a.denied a.unproved) (eqb-true a.expected b.expected expected_is.0)
+    ∙ ap (λ (n : ℕ). numbered b.line b.column b.number b.status b.file b.expected n a.denied a.unproved) (eqb-true a.limit b.limit limit_is.0)
+    ∙ ap (λ (n : ℕ). numbered b.line b.column b.number b.status b.file b.expected b.limit n a.unproved) (eqb-true a.denied b.denied denied_is.0)
+    ∙ ap (λ (n : ℕ). numbered b.line b.column b.number b.status b.file b.expected b.limit b.denied n) (eqb-true a.unproved b.unproved denied_is.1)
+
+-- the outcome that is found has these numbers
+pub has_numbers : (r told : PbcnfRefusal) (found : Option Outcome) (numbers : Option PbcnfRefusal) (same : Bool) → numbers ≡ option_map refusal_of found → numbers ≡ Some told → same ≡ all_equal told r → same ≡ true → IfSome found (λ o. r ≡ refusal_of o)
+has_numbers r told None numbers same are is compared holds = tt
+has_numbers r told (Some o) numbers same are is compared holds = sym (same_numbers told r (sym compared ∙ holds)) ∙ ap (given r) (sym is ∙ are)
