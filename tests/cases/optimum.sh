@@ -12,9 +12,9 @@ says 'o 1' 's OPTIMUM FOUND' 'v x1 -x2'
 fault 7 'PROOF line 5: not propagated' optimum a.opb worse.model a.cnf a.proof a.lrat
 fault 10 'LRAT line 1: no empty clause' optimum a.opb best.model a.cnf a.proof /dev/null
 
-# Files for another bound, and for none, and of another problem.
+# Files for a greater bound, which are accepted beside this one too, but have not all its clauses; for none; and of another problem.
 fine encode a.opb other.cnf other.proof --at-most=1
-expect 7 pb optimum a.opb best.model other.cnf other.proof a.lrat
+fault 10 'LRAT line 1: unknown hint 3' optimum a.opb best.model other.cnf other.proof a.lrat
 fine encode a.opb other.cnf other.proof
 expect 1 pb optimum a.opb best.model other.cnf other.proof a.lrat
 text other.opb 'min: +1 x1 +1 x2 ;' '+1 x1 +1 x2 >= 2 ;'
