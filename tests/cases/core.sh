@@ -57,7 +57,7 @@ expect 0 "$core" "$examples/choice.opb" --solver newer/cadical
 mkdir bin
 text bin/cadical '#!/bin/sh' "[ \"\$1\" = --help ] && exit" "echo \$\$ >'$PWD/started'" 'exec sleep 1000'
 chmod 755 bin/cadical
-"$core" "$examples/pigeons.opb" --solver "$PWD/bin/cadical" >"$said" 2>"$told" &
+"$core" "$examples/pigeons.opb" --solver bin/cadical >"$said" 2>"$told" &
 wait_until test -s started
 kill -TERM $!
 wait $!

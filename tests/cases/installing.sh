@@ -244,10 +244,10 @@ try_commands() {
     chmod 755 "$work/$subject/plays/solver"
     text small.opb '+1 rain +1 sun +1 snow >= 1 ;' '+1 rain +1 sun <= 1 ;'
     on_path() {
-        PATH=$prefix/bin:$PATH SOLVER=$work/$subject/plays/solver "$@"
+        PATH=$prefix/bin:$PATH SOLVER=../plays/solver "$@"
     }
     by_place() {
-        SOLVER=$work/$subject/plays/solver "$prefix/bin/$1" "${@:2}"
+        SOLVER=../plays/solver "$prefix/bin/$1" "${@:2}"
     }
     for way in on_path by_place; do
         expect 0 $way pbcnf-solve small.opb
