@@ -1,7 +1,7 @@
 """The commands over the proved program: `solve`, `minimize`, `core`, `hints`, `tidy`, `veripb`.
 
-What is printed as a solution was tested by the program's `decode`, and what is called an optimum, or without solutions, was refuted by
-its `refute`, so that nothing here, and no solver, need be believed. Each command is a function `main` of a module;
+What is printed as a solution was tested by the program's `decode`, what is called an optimum was accepted by its `optimum`, and what is
+said to have no solution was refuted by its `refute`. So nothing here, and no solver, need be believed. Each command is a function `main` of a module;
 `python3 -m pbcnf.tools minimize OPB` runs it too.
 """
 

@@ -16,7 +16,7 @@ from typing import List, Mapping, Optional
 from pbcnf.tools import options, program, solvers, tracing
 from pbcnf.tools.opb_text import Statement, statements, token_at
 from pbcnf.tools.output import complain, say, status_of, test_output
-from pbcnf.tools.program import Program
+from pbcnf.tools.program import Program, Refutation
 from pbcnf.tools.reasons import make_lrat
 from pbcnf.tools.solvers import Files, Verdict
 from pbcnf.tools.statuses import Status, Stop
@@ -161,7 +161,7 @@ class _Core:
         proved = self._pose(_as_text(core))
         if self._refute(proved) is Verdict.MODEL:
             raise Stop(Status.NO_ANSWER, "CaDiCaL says now this, now that")
-        proved.refute(self._file("cnf"), self._file("proof"), self._lrat, [])
+        proved.refute(Refutation(self._file("cnf"), self._file("proof"), self._lrat), [])
 
 
 def _find_solver(named: Optional[str], environment: Mapping[str, str], watch: Watch) -> solvers.Solver:

@@ -19,7 +19,7 @@ from pbcnf.tools.workspace import workspace_of
 _NAME = "pbcnf-minimize"
 _ABOUT = "Finds a solution of the least value of an OPB problem, and has it refuted that any is better. Prints better ones as they come."
 _STATUSES = """exit status:
-  0   the optimum was printed, behind s OPTIMUM FOUND: it is refuted that any is better
+  0   the optimum was printed, after s OPTIMUM FOUND: pbcnf optimum says that it is one
   20  that there is any solution is refuted: s UNSATISFIABLE was printed
   2   a word has no place; nothing was done
   4   the file could not be read
@@ -31,7 +31,7 @@ _STATUSES = """exit status:
   75  a signal came, the time was over, or nothing can be refuted, since there
       is no CaDiCaL or as --unproved asks: the best solution so far was
       printed behind s SATISFIABLE, or s UNKNOWN
-  else that of encode, decode or refute; the best solution so far was printed too
+  else that of encode, decode, refute or optimum; the best solution so far was printed too
 """
 
 
@@ -40,7 +40,7 @@ def main(words: Optional[List[str]] = None) -> int:
     parser = options.parser(_NAME, _ABOUT, _STATUSES)
     options.add_encoding(parser)
     parser.add_argument("-q", "--quiet", action="store_true", help="nothing on standard error but faults")
-    parser.add_argument("--keep", metavar="FOLDER", help="put refuted.cnf, refuted.proof and refuted.lrat there, for pbcnf refute")
+    parser.add_argument("--keep", metavar="FOLDER", help="put best.model, refuted.cnf, refuted.proof and refuted.lrat there, for pbcnf optimum")
     parser.add_argument(
         "--jobs", metavar="N", type=options.count_from_one, default=min(2, os.cpu_count() or 1),
         help="so many solvers beside one another (2, if there are as many processors)")
@@ -122,7 +122,7 @@ class _Run:
             complain(_NAME, "there is no objective")
             say("s SATISFIABLE\n%s\n" % best.values)
             return Status.NO_OBJECTIVE
-        self._oracle.certify(best.value - 1, self._prover, keep)
+        self._oracle.certify_best(best, best.value, self._prover, keep)
         self._progress.clear()
         say("s OPTIMUM FOUND\n%s\n" % best.values)
         return Status.DONE

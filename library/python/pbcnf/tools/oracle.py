@@ -1,7 +1,7 @@
 """Answers whether there is a solution within a bound on the objective: encodes the problem with it, and runs the solver.
 
 Each bound is encoded anew. A table of all bounds over one CNF would save that, but it is up to ten thousand times as large as the
-problem, and a refutation over the table with a bound is none that `refute` takes. Over the one bound it is: so that of the greatest
+problem, and a refutation over the table with a bound is none that `optimum` takes. Over the one bound it is: so that of the greatest
 refused bound is kept, and an optimum rests on the run which has found nothing better, without another. What such runs do not keep,
 the clauses that were learned, an optimizer beside them does.
 """
@@ -14,7 +14,7 @@ from typing import List, Optional, Protocol, Sequence, Tuple, Union
 from pbcnf.tools import optimizers
 from pbcnf.tools.encodings import Encodings
 from pbcnf.tools.optimizers import Descent
-from pbcnf.tools.program import Program, Solution, Summary, bound_option
+from pbcnf.tools.program import Program, Refutation, Solution, Summary, bound_option
 from pbcnf.tools.reasons import make_lrat, takes_long
 from pbcnf.tools.solvers import Effort, Files, Run, Solver, Verdict
 from pbcnf.tools.statuses import Status, Stop
@@ -106,9 +106,27 @@ class Oracle:
     def certify(self, bound: Optional[int], prover: Optional[Solver], keep: Optional[str] = None) -> None:
         """Comes back where the program's `refute` accepts that no solution is within the bound, which the solver has refused.
 
-        The refutation is that of the solver's run where the solver is the prover, else that of one more run. The derivation is that
-        of the same CNF, which is written once more beside it. Where `keep` is a folder, the files are put there.
+        Where `keep` is a folder, what it rests on is put there.
         """
+        refutation = self._refutation(bound, prover)
+        self._program.refute(refutation, _bound(bound))
+        if keep is not None:
+            _put(refutation, keep)
+
+    def certify_best(self, best: Solution, value: int, prover: Optional[Solver], keep: Optional[str] = None) -> None:
+        """Comes back where the program's `optimum` accepts this solution of this value as one; the solver has refused what is better.
+
+        Where `keep` is a folder, what it rests on is put there.
+        """
+        refutation = self._refutation(value - 1, prover)
+        self._program.optimum(best, refutation)
+        if keep is not None:
+            _put(refutation, keep)
+            put_whole(self._workspace.write("best.model", best.model), os.path.join(keep, "best.model"))
+
+    def _refutation(self, bound: Optional[int], prover: Optional[Solver]) -> Refutation:
+        """The refutation that there is a solution within the bound: that of the solver's run where the solver is the prover, else that
+        of one more run. The derivation is that of the same CNF, which is written once more beside it."""
         if prover is None or prover.reasons is None:
             raise Stop(Status.UNPROVED, "%s finds nothing better, and gives no reasons that would refute it" % self._solver.name)
         if self._refused is None or self._refused.bound != bound or self._solver is not prover:
@@ -120,11 +138,7 @@ class Oracle:
         proof = self._workspace.path("proof")
         self._told.refutes(os.path.exists(reasons) and takes_long(prover.reasons, reasons))
         self._program.encode(self._refused.options, cnf, proof)
-        lrat = make_lrat(prover.reasons, cnf, reasons, self._watch, self._workspace)
-        self._program.refute(cnf, proof, lrat, _bound(bound))
-        if keep is not None:
-            for name, path in (("cnf", cnf), ("proof", proof), ("lrat", lrat)):
-                put_whole(path, os.path.join(keep, "refuted." + name))
+        return Refutation(cnf, proof, make_lrat(prover.reasons, cnf, reasons, self._watch, self._workspace))
 
     def _end(self, question: Question) -> Answer:
         answer = self._judge(question)
@@ -170,6 +184,12 @@ class Oracle:
 def _bound(bound: Optional[int]) -> List[str]:
     """The options for a bound, of `encode`, `decode` and `refute`."""
     return [] if bound is None else [bound_option(bound)]
+
+
+def _put(refutation: Refutation, folder: str) -> None:
+    """Puts the files of a refutation into a folder."""
+    for name, path in refutation._asdict().items():
+        put_whole(path, os.path.join(folder, "refuted." + name))
 
 
 def _clear(question: Question) -> None:

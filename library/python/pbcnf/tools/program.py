@@ -6,8 +6,8 @@ import os
 import shutil
 import subprocess
 import sys
-from dataclasses import dataclass
-from typing import Iterator, List, Mapping, Optional, Sequence
+from dataclasses import dataclass, field
+from typing import Iterator, List, Mapping, NamedTuple, Optional, Sequence
 
 from pbcnf.tools.output import tell
 from pbcnf.tools.statuses import Status, Stop
@@ -64,6 +64,16 @@ class Solution:
     """That of the objective, if there is one."""
     values: str
     """The `v` line."""
+    model: bytes = field(default=b"", repr=False, compare=False)
+    """The solver's text that gave it."""
+
+
+class Refutation(NamedTuple):
+    """The files of a CNF, its derivation, and a refutation of it."""
+
+    cnf: str
+    proof: str
+    lrat: str
 
 
 class Program:
@@ -96,7 +106,8 @@ class Program:
         """The solution that a solver's text gives."""
         lines = self._ask("decode", [self._problem, model], bound).splitlines()
         value = next((int(line[2:]) for line in lines if line.startswith("o ")), None)
-        return Solution(value, next(line for line in lines if line.startswith("v")))
+        with open(model, "rb") as file:
+            return Solution(value, next(line for line in lines if line.startswith("v")), file.read())
 
     def weighted(self, options: Sequence[str], wcnf: str) -> Summary:
         """Writes the weighted CNF."""
@@ -113,11 +124,18 @@ class Program:
         os.unlink(path)
         return Values(least, weights)
 
-    def refute(self, cnf: str, proof: str, lrat: str, bound: Sequence[str]) -> None:
+    def refute(self, refutation: Refutation, bound: Sequence[str]) -> None:
         """Comes back where the program says `refuted`."""
-        said = self._ask("refute", [self._problem, cnf, proof, lrat], bound)
+        said = self._ask("refute", [self._problem, *refutation], bound)
         if said != "refuted\n":
             raise Stop(Status.NO_ANSWER, "refute has not said `refuted`")
+
+    def optimum(self, best: Solution, refutation: Refutation) -> None:
+        """Comes back where the program, which tests the solution anew, says that it is an optimum."""
+        model = self._workspace.write("best.model", best.model)
+        said = self._ask("optimum", [self._problem, model, *refutation], [])
+        if said != "o %s\ns OPTIMUM FOUND\n%s\n" % (best.value, best.values):
+            raise Stop(Status.NO_ANSWER, "optimum has not said that this solution is one")
 
     def _ask(self, command: str, files: List[str], options: Sequence[str]) -> str:
         """What a command says, where it ends with 0; else its status is that of all."""
