@@ -18,6 +18,12 @@ REJECTED = 7
 NOT_A_REFUTATION = 10
 
 
+def _is_empty(operations: List[Operation]) -> bool:
+    """Whether an axiom is weakened away at once. That leaves `>= 0`, since no degree of a derivation is below zero; VeriPB's would be."""
+    words = [operation.word for operation in operations]
+    return words == ["axiom", "w"] and abs(operations[0].number) == operations[1].number
+
+
 class Derivation:
     """The live constraints of a derivation, by the ids that they have there and in the proof."""
 
@@ -33,7 +39,7 @@ class Derivation:
 
     def translate(self, line: Line, step: Step) -> None:
         if isinstance(step, Pol):
-            self._derived(self._proof.pol([self._word(line, operation) for operation in step.operations]))
+            self._pol(line, step)
         elif isinstance(step, Rup):
             self._judge_variables(line, step.terms)
             self._derived(self._proof.rup(step.terms, step.right, self._ids(line, step.ids)))
@@ -52,6 +58,10 @@ class Derivation:
     def _derived(self, printed: int) -> None:
         self._printed[self._next] = printed
         self._next += 1
+
+    def _pol(self, line: Line, step: Pol) -> None:
+        words = [self._word(line, operation) for operation in step.operations]
+        self._derived(self._proof.rup([], 0, []) if _is_empty(step.operations) else self._proof.pol(words))
 
     def _word(self, line: Line, operation: Operation) -> str:
         """An operation of `pol`; those with an operand before them are one here."""
