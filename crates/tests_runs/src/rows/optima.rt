@@ -61,7 +61,7 @@ const CASES: &[(&str, &str, &str, &str)] = &[
         "+1 x1\n",
         "x\n",
         "x\n",
-        "1 pbcnf: OPB 1:7: expected a coefficient or a relation",
+        "1 pbcnf: OPB 2:1: expected a coefficient or a relation",
     ),
 ];
 
