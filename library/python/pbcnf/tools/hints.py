@@ -147,7 +147,7 @@ class _Hints:
                 clauses.revive(event.number)
                 continue
             self._pause()
-            clauses.delete(event.number)
+            clauses.forget(event.number)
             if self._held[event.number] < len(clauses.trail):
                 clauses.take_back(self._held[event.number])
             if clauses.in_core[event.number]:
@@ -191,7 +191,7 @@ class _Hints:
                 stack.pop()
         fresh = [number for number in order if not clauses.in_core[number]]
         for number in fresh:
-            clauses.in_core[number] = 1
+            clauses.put_in_core(number)
         self._ends[user] = fresh
         return order
 

@@ -1,16 +1,58 @@
-"""Unit propagation over clauses that come and go, with two watched literals a clause.
+"""Unit propagation over clauses that come and go.
 
 A clause is known by its number, from 1 on, in the order in which clauses are added; a literal is a signed number. Lists that have a
 place for each literal take that number as the place: Python counts negative places from the end.
 
-Clauses on which the refutation is known to rest, the core, are gone through first: so fewer others come into it.
+Most clauses of an encoding have two or three literals. Each of these literals knows the others, so that nothing moves when it becomes
+false. Of a longer clause two literals are watched. Clauses on which the refutation is known to rest, the core, are gone through first:
+so fewer others come into it.
 """
 
 from __future__ import annotations
 
-from typing import Dict, Iterable, List
+from typing import Dict, Iterable, List, Tuple, TypeVar
 
-Watchers = List[List[int]]
+# A clause of more literals is watched.
+_SHORT = 3
+_Entry = TypeVar("_Entry")
+
+
+class Group:
+    """Clauses, as each literal finds them when it has become false."""
+
+    def __init__(self, places: int) -> None:
+        self.pairs: List[List[Tuple[int, int]]] = [[] for _ in range(places)]
+        """The other literal of a clause of two, and its number."""
+        self.triples: List[List[Tuple[int, int, int]]] = [[] for _ in range(places)]
+        """Both others of a clause of three, and its number."""
+        self.watchers: List[List[int]] = [[] for _ in range(places)]
+        """The numbers of the longer clauses in which the literal is watched."""
+        self.done = 0
+        """How much of the trail has gone through these clauses."""
+
+    def put(self, number: int, clause: List[int]) -> None:
+        """Puts a clause in, if it is short, behind those that are there."""
+        if len(clause) == 2:
+            one, two = clause
+            self.pairs[one].append((two, number))
+            self.pairs[two].append((one, number))
+        elif len(clause) == _SHORT:
+            one, two, three = clause
+            self.triples[one].append((two, three, number))
+            self.triples[two].append((one, three, number))
+            self.triples[three].append((one, two, number))
+
+    def take(self, number: int, clause: List[int]) -> None:
+        """Takes a short clause out, most quickly if it is the last one."""
+        if len(clause) == 2:
+            one, two = clause
+            _drop(self.pairs[one], (two, number))
+            _drop(self.pairs[two], (one, number))
+        elif len(clause) == _SHORT:
+            one, two, three = clause
+            _drop(self.triples[one], (two, three, number))
+            _drop(self.triples[two], (one, three, number))
+            _drop(self.triples[three], (one, two, number))
 
 
 class Clauses:
@@ -19,57 +61,67 @@ class Clauses:
     def __init__(self, variables: int) -> None:
         places = 2 * variables + 1
         self.literals: List[List[int]] = [[]]
-        """Those of each clause, by its number. The first two are watched, unless there is only one."""
+        """Those of each clause, by its number. Of a longer one the first two are watched."""
         self.in_core = bytearray(1)
         self.trail: List[int] = []
         """The literals that are true, in the order in which they became so."""
         self._alive = bytearray(1)
         self._true = bytearray(places)
-        self._reason = [0] * (variables + 1)
-        self._core: Watchers = [[] for _ in range(places)]
-        self._rest: Watchers = [[] for _ in range(places)]
-        # How much of the trail has gone through the one and the other.
-        self._core_done = self._rest_done = 0
+        self._false = bytearray(places)
+        self._reason = [0] * places
+        self._core, self._rest = Group(places), Group(places)
         # The watched literals from whose lists a deleted clause was taken.
         self._lost: Dict[int, List[int]] = {}
 
     def add(self, literals: Iterable[int]) -> int:
         """Adds a clause, and goes on from it. Gives a clause that is false then, or 0."""
         clause = list(dict.fromkeys(literals))
-        true = self._true
         if self.trail:
             # What is false here is so as long as the clause lives.
-            clause.sort(key=lambda literal: true[-literal])
+            clause.sort(key=self._false.__getitem__)
         number = len(self.literals)
         self.literals.append(clause)
         self.in_core.append(0)
         self._alive.append(1)
-        for literal in clause[:2] if len(clause) > 1 else ():
-            self._rest[literal].append(number)
-        if not clause or true[-clause[0]]:
+        self._rest.put(number, clause)
+        for literal in clause[:2] if len(clause) > _SHORT else ():
+            self._rest.watchers[literal].append(number)
+        if not clause or self._false[clause[0]]:
             return number
-        if true[clause[0]] or (len(clause) > 1 and not true[-clause[1]]):
+        if self._true[clause[0]] or (len(clause) > 1 and not self._false[clause[1]]):
             return 0
         self.assign(clause[0], number)
         return self.propagate()
 
     def delete(self, number: int) -> None:
-        """Takes a clause out. Its watches stay, until they are met."""
+        """Takes a clause out that may be put back. It stays where literals find it, until it is met there."""
         self._alive[number] = 0
 
     def revive(self, number: int) -> None:
         """Puts a deleted clause back."""
         self._alive[number] = 1
         for literal in self._lost.pop(number, ()):
-            self._watchers(number)[literal].append(number)
+            self._group(number).watchers[literal].append(number)
+
+    def forget(self, number: int) -> None:
+        """Takes the last clause out for ever."""
+        self._alive[number] = 0
+        self._rest.take(number, self.literals[number])
+        if self.in_core[number]:
+            self._core.take(number, self.literals[number])
+
+    def put_in_core(self, number: int) -> None:
+        """Makes a clause one of the core. A longer one comes there when it is met."""
+        self.in_core[number] = 1
+        self._core.put(number, self.literals[number])
 
     def is_reason(self, number: int) -> bool:
         """Whether a literal is true because of this clause."""
-        return any(self._true[literal] and self._reason[abs(literal)] == number for literal in self.literals[number][:2])
+        return any(self._true[literal] and self._reason[literal] == number for literal in self.literals[number])
 
     def reason_of(self, literal: int) -> int:
         """The clause that has made a literal true, or 0 where it is not, or was only assumed."""
-        return self._reason[abs(literal)] if self._true[literal] else 0
+        return self._reason[literal] if self._true[literal] else 0
 
     def is_true(self, literal: int) -> bool:
         """Whether a literal is true."""
@@ -77,72 +129,107 @@ class Clauses:
 
     def assign(self, literal: int, number: int) -> None:
         """Makes a literal true, because of a clause, or as one that is assumed, for 0."""
-        self._true[literal] = 1
-        self._reason[abs(literal)] = number
+        self._true[literal] = self._false[-literal] = 1
+        self._reason[literal] = number
         self.trail.append(literal)
 
     def take_back(self, length: int) -> None:
         """Leaves so many of the true literals."""
         for literal in self.trail[length:]:
-            self._true[literal] = 0
+            self._true[literal] = self._false[-literal] = 0
         del self.trail[length:]
-        self._core_done = min(self._core_done, length)
-        self._rest_done = min(self._rest_done, length)
+        for group in (self._core, self._rest):
+            group.done = min(group.done, length)
 
     def propagate(self) -> int:
         """Goes on from what became true, over the core as far as that reaches, before each literal over the others.
 
         Gives a clause that is false then, or 0.
         """
-        trail = self.trail
-        while self._rest_done < len(trail):
-            wrong = 0
-            while not wrong and self._core_done < len(trail):
-                self._core_done += 1
-                wrong = self._visit(self._core, -trail[self._core_done - 1])
-            if not wrong:
-                self._rest_done += 1
-                wrong = self._visit(self._rest, -trail[self._rest_done - 1])
-            if wrong:
-                return wrong
-        return 0
+        trail, core, rest = self.trail, self._core, self._rest
+        wrong = self._visit(core, len(self._true))
+        while not wrong and rest.done < len(trail):
+            wrong = self._visit(rest, 1)
+            if not wrong and core.done < len(trail):
+                wrong = self._visit(core, len(self._true))
+        return wrong
 
-    def _watchers(self, number: int) -> Watchers:
+    def _group(self, number: int) -> Group:
         return self._core if self.in_core[number] else self._rest
 
-    def _visit(self, watchers: Watchers, false: int) -> int:
-        """Goes through the clauses that watch a literal which became false. Gives one that is false, or 0.
+    def _visit(self, group: Group, most: int) -> int:
+        """Goes through the clauses of a group for so many of the literals that have not gone through them. Gives one that is false, or 0.
 
-        Most of the time goes by here, so nothing is called for a clause that is true or finds another literal to watch.
+        Most of the time goes by here. So nothing is called for a short clause, and what `assign` does is done in place.
         """
-        true, literals, alive, in_core, core, rest = self._true, self.literals, self._alive, self.in_core, self._core, self._rest
+        true, false, reason, alive, trail = self._true, self._false, self._reason, self._alive, self.trail
+        wrong, done, ends = 0, group.done, group.done + most
+        while not wrong and done < len(trail) and done < ends:
+            gone = -trail[done]
+            done += 1
+            for literal, number in group.pairs[gone]:
+                if true[literal] or not alive[number]:
+                    continue
+                if false[literal]:
+                    wrong = number
+                    break
+                true[literal] = false[-literal] = 1
+                reason[literal] = number
+                trail.append(literal)
+            for literal, other, number in group.triples[gone] if not wrong else ():
+                if true[literal] or true[other] or not (false[literal] or false[other]) or not alive[number]:
+                    continue
+                if false[literal]:
+                    if false[other]:
+                        wrong = number
+                        break
+                    literal = other
+                true[literal] = false[-literal] = 1
+                reason[literal] = number
+                trail.append(literal)
+            if not wrong and group.watchers[gone]:
+                wrong = self._visit_watchers(group.watchers, gone)
+        group.done = done
+        return wrong
+
+    def _visit_watchers(self, watchers: List[List[int]], gone: int) -> int:
+        """Goes through the longer clauses that watch a literal which became false; those that find another one to watch go there."""
+        true, false, literals, alive = self._true, self._false, self.literals, self._alive
         kept: List[int] = []
-        visited = iter(watchers[false])
+        visited = iter(watchers[gone])
         for number in visited:
             clause = literals[number]
             other = clause[0]
-            if other == false:
+            if other == gone:
                 other = clause[0] = clause[1]
-                clause[1] = false
+                clause[1] = gone
             if true[other]:
                 kept.append(number)
                 continue
             if not alive[number]:
-                self._lost.setdefault(number, []).append(false)
+                self._lost.setdefault(number, []).append(gone)
                 continue
             for place in range(2, len(clause)):
                 literal = clause[place]
-                if not true[-literal]:
+                if not false[literal]:
                     clause[1] = literal
-                    clause[place] = false
-                    (core if in_core[number] else rest)[literal].append(number)
+                    clause[place] = gone
+                    self._group(number).watchers[literal].append(number)
                     break
             else:
                 kept.append(number)
-                if true[-other]:
+                if false[other]:
                     kept.extend(visited)
-                    watchers[false] = kept
+                    watchers[gone] = kept
                     return number
                 self.assign(other, number)
-        watchers[false] = kept
+        watchers[gone] = kept
         return 0
+
+
+def _drop(entries: List[_Entry], entry: _Entry) -> None:
+    """Takes an entry out of a list, of which it mostly is the last."""
+    if entries[-1] == entry:
+        entries.pop()
+    else:
+        entries.remove(entry)
