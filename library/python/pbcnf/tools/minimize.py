@@ -122,7 +122,7 @@ class _Run:
             complain(_NAME, "there is no objective")
             say("s SATISFIABLE\n%s\n" % best.values)
             return Status.NO_OBJECTIVE
-        self._oracle.certify_best(best, best.value, self._prover, keep)
+        self._oracle.certify_best(best, self._prover, keep)
         self._progress.clear()
         say("s OPTIMUM FOUND\n%s\n" % best.values)
         return Status.DONE

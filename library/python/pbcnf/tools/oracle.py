@@ -113,12 +113,13 @@ class Oracle:
         if keep is not None:
             _put(refutation, keep)
 
-    def certify_best(self, best: Solution, value: int, prover: Optional[Solver], keep: Optional[str] = None) -> None:
-        """Comes back where the program's `optimum` accepts this solution of this value as one; the solver has refused what is better.
+    def certify_best(self, best: Solution, prover: Optional[Solver], keep: Optional[str] = None) -> None:
+        """Comes back where the program's `optimum` accepts this solution as one; the solver has refused what is better.
 
         Where `keep` is a folder, what it rests on is put there.
         """
-        refutation = self._refutation(value - 1, prover)
+        assert best.value is not None
+        refutation = self._refutation(best.value - 1, prover)
         self._program.optimum(best, refutation)
         if keep is not None:
             _put(refutation, keep)
