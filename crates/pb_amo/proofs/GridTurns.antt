@@ -1,31 +1,28 @@
 -- A grid's derivation, part by part.
-use Rattle.std.proofs.Common.{◌≡◌, ◌≤◌, ◌<◌, ◌+◌, ◌*◌, ◌++◌, ◌∙◌, ℕ, cond, List, [], ◌∷◌, map, length, ap, sym, arith}
+use Rattle.std.proofs.Common.{◌≡◌, ◌≤◌, ◌<◌, ◌+◌, ◌*◌, ◌++◌, ◌∙◌, ℕ, cond, List, [], ◌∷◌, length, refl, ap, sym, arith}
 use Rattle.std.specs.Prelude.{Result, IsErrAnd}
 use Rattle.std.proofs.lemmas.List.Sums.{sum_by-cons, sum_by-append, count_by-le-length}
-use Rattle.std.proofs.lemmas.List.FromFn.{length-map-range_with_len}
 use Rattle.pb_base.specs.declared.literal.Lit.{Lit}
 use Rattle.pb_steps.specs.declared.step.Step.{Step}
 use Rattle.pb_steps.specs.Steps.{takes_id}
 use Rattle.pb_derive.specs.Claims.{claim_steps}
 use Rattle.pb_derive.specs.Deletions.{deletion_steps}
 use Rattle.pb_derive.specs.FollowedBy.{followed_by}
-use Rattle.pb_derive.specs.Justifications.{by_justification}
-use Rattle.pb_derive.specs.Reifications.{Reification, reification_steps}
-use Rattle.pb_family.specs.Numbered.{justifications_by_number, reifications_by_number}
+use Rattle.pb_derive.specs.Reifications.{reification_steps}
+use Rattle.pb_family.specs.Derivations.{pieces}
 use Rattle.pb_family.specs.StepSinks.{StepState, TakesSteps, StopsInSteps, HandsSteps}
 use Rattle.pb_family.specs.declared.sink.SinkFault.{SinkFault}
 use Rattle.pb_family.proofs.Deriving.{Deriving, deriving_starts, deriving_from, deriving_as, deriving_step, steps_fault, steps_last}
-use Rattle.pb_family.proofs.FlatPieces.{justifications_next, reifications_next}
-use Rattle.pb_family.proofs.Sequence.{deletions_ids, after_followed, followed_fault}
+use Rattle.pb_family.proofs.Sequence.{reification_piece, reification_pieces, reification_ids, flat_claims, pieces_ids, deletions_ids, after_followed, followed_fault}
 use Rattle.pb_amo.specs.Product.{rows, columns, line, product_fresh, product_count}
-use Rattle.pb_amo.specs.ProductSteps.{line_sum, side_steps, product_steps}
-use Rattle.pb_amo.specs.inner.GridOrder.{line_at, cell_at}
+use Rattle.pb_amo.specs.ProductSteps.{grid_reifications, cell_claims, line_sum, side_steps, product_steps}
+use Rattle.pb_amo.specs.inner.GridOrder.{line_at}
 use Rattle.pb_amo.specs.inner.ProductParts.{most_steps, rows_then, columns_then, sides_steps}
 use Rattle.pb_amo.specs.laws.GridCounts.{fresh_step, count_step}
 use Rattle.pb_amo.specs.laws.LineLaws.{length-line}
 use Rattle.pb_amo.specs.laws.ProductLevels.{product_levels}
 use Rattle.pb_amo.specs.laws.ProductShort.{lines_within}
-use Rattle.pb_amo.proofs.GridPieces.{lines_by_number, cells_by_number}
+use Rattle.pb_amo.proofs.GridPieces.{lines_by_number}
 
 -- ---- how many ids
 
@@ -56,11 +53,11 @@ side_next sum_id base first w inner now after h =
 -- ---- the parts
 
 module _ (ms : List Lit) (first id r q base : ℕ) where
-  abbrev pub lines_of : List Reification
-  lines_of = reifications_by_number (line_at ms first r q) (r + q)
+  abbrev pub lines_from : ℕ → List Step
+  lines_from next = pieces (reification_piece (line_at ms first r q)) 2 next 0 (r + q)
 
   abbrev pub cells_from : ℕ → List Step
-  cells_from next = claim_steps next (map by_justification (justifications_by_number (cell_at ms first r q base) (length ms * 2)))
+  cells_from next = pieces (λ id e. claim_steps id (cell_claims ms first r q base e)) 2 next 0 (length ms)
 
   abbrev pub sides_from : ℕ → List Step
   sides_from = followed_by (rows_then first id r q base) (columns_then first id r q base)
@@ -70,7 +67,10 @@ module _ (ms : List Lit) (first id r q base : ℕ) where
 
   -- all of them, from the next id on
   abbrev pub parts_of : ℕ → List Step
-  parts_of next = reification_steps next lines_of ++ (followed_by cells_from sides_from (next + 2 * (r + q)) ++ gone)
+  parts_of next = lines_from next ++ (followed_by cells_from sides_from (next + 2 * (r + q)) ++ gone)
+
+lines_same : (ms : List Lit) (first r q next : ℕ) → reification_steps next (grid_reifications ms first r q) ≡ pieces (reification_piece (line_at ms first r q)) 2 next 0 (r + q)
+lines_same ms first r q next = ap (reification_steps next) (sym (lines_by_number ms first r q)) ∙ reification_pieces (line_at ms first r q) next 0 (r + q)
 
 -- a grid of more than four literals, with its sides: the parts of its derivation, and how many steps they are at most
 pub record Turn (ms : List Lit) (first id next r q base : ℕ) : Type 0 where
@@ -84,8 +84,8 @@ turn_of ms first id next count r q base size of_rows of_columns many is =
     record {
       parts = rw (is, of_rows ∙ ap rows size, of_columns ∙ ap columns size)
           (product_levels ms first id next (omega arith)
-          ∙ (λ x. reification_steps next (sym (lines_by_number ms first r0 q0) x)
-          ++ (followed_by (λ n. claim_steps n (map by_justification (sym (cells_by_number ms first r0 q0 next) x))) (sides_from ms first id r0 q0 next) (next + 2 * (r0 + q0)) ++ gone ms first id r0 q0 next)));
+          ∙ (λ x. lines_same ms first r0 q0 next x
+          ++ (followed_by (λ n. flat_claims (cell_claims ms first r0 q0 next) 2 (λ e. refl) n 0 (length ms) x) (sides_from ms first id r0 q0 next) (next + 2 * (r0 + q0)) ++ gone ms first id r0 q0 next)));
       most = omega (arith, size, ap product_fresh size, ap product_count size, fresh_step count many, count_step count many, of_rows, of_columns, ap product_fresh of_rows, ap product_fresh of_columns, ap product_count of_rows, ap product_count of_columns);
     }
 
@@ -95,7 +95,7 @@ module _ {R : Type 0} {ms : List Lit} {first id r q base : ℕ} (old : StepState
   all = product_steps ms first id old.next
 
   abbrev lines : List Step
-  lines = reification_steps old.next (lines_of ms first id r q base)
+  lines = lines_from ms first id r q base old.next
 
   abbrev behind : ℕ → List Step
   behind n = followed_by (cells_from ms first id r q base) (sides_from ms first id r q base) n ++ gone ms first id r q base
@@ -105,7 +105,7 @@ module _ {R : Type 0} {ms : List Lit} {first id r q base : ℕ} (old : StepState
 
   module _ (now : StepState R) (h : TakesSteps lines old now) where
     pub lines_next : now.next ≡ old.next + 2 * (r + q)
-    lines_next = reifications_next (line_at ms first r q) (r + q) old now h
+    lines_next = omega (arith, h.ids, pieces_ids (reification_piece (line_at ms first r q)) 2 (λ id k. reification_ids id (line_at ms first r q k)) old.next 0 (r + q))
 
     after_lines : Deriving all (behind now.next) old now
     after_lines = deriving_as (ap behind (sym lines_next)) (deriving_step {left = behind (old.next + 2 * (r + q))} lines now (deriving_from old turn.parts) h)
@@ -116,7 +116,7 @@ module _ {R : Type 0} {ms : List Lit} {first id r q base : ℕ} (old : StepState
     module _ (mid : StepState R) (k : TakesSteps (cells_from ms first id r q base now.next) now mid) where
       pub cells_next : mid.next ≡ old.next + 2 * (r + q) + 2 * length ms
       cells_next =
-          omega (arith, lines_next, justifications_next (justifications_by_number (cell_at ms first r q base) (length ms * 2)) now mid k, length-map-range_with_len (cell_at ms first r q base) 0 (length ms * 2))
+          omega (arith, lines_next, k.ids, pieces_ids (λ id e. claim_steps id (cell_claims ms first r q base e)) 2 (λ id e. refl) now.next 0 (length ms))
 
       after_cells : Deriving all (sides_from ms first id r q base mid.next ++ gone ms first id r q base) old mid
       after_cells = after_followed (cells_from ms first id r q base) (sides_from ms first id r q base) (gone ms first id r q base) after_lines mid k

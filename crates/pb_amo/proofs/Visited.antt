@@ -7,7 +7,7 @@ use Rattle.std.proofs.lemmas.Nat.{div-mul-add, mod-mul-add, mod_below}
 use Rattle.pb_base.specs.declared.literal.Lit.{Lit}
 use Rattle.pb_norm.specs.Constraints.{Weighted, weight}
 use Rattle.pb_derive.specs.Ones.{ones}
-use Rattle.pb_amo.specs.Passing.{passing, in_line, is_beside, Visits}
+use Rattle.pb_amo.specs.Passing.{passing, in_line, Visits}
 use Rattle.pb_amo.specs.ProductSteps.{row_of, column_of}
 
 -- none passes in between
@@ -33,7 +33,7 @@ push {X} p e (suc j) i (x ∷ xs) d within at h = by_test (p e) (push p (e + 1) 
     by_test true ih = ap (λ (ys : List X). x ∷ ys) ih
     by_test false ih = ih
 
-module _ {X : Type 0} (p : ℕ → Bool) (xs : List X) (from step count but : ℕ) (v : Visits p (length xs) from step count but) where
+module _ {X : Type 0} (p : ℕ → Bool) (xs : List X) (from step count : ℕ) (v : Visits p (length xs) from step count) where
   abbrev so_far : ℕ → List X
   so_far i = passing p 0 (take (from + i * step) xs)
 
@@ -42,24 +42,11 @@ module _ {X : Type 0} (p : ℕ → Bool) (xs : List X) (from step count but : �
       ap (λ (k : ℕ). passing p 0 (take k xs)) (let same : from + 0 * step ≡ from = omega arith in same)
       ∙ skip p 0 0 from xs (omega arith) (λ i low high. v.before i (omega (arith, high)))
 
-  pub visits_kept : (i : ℕ) (d : X) → i < count → 1 ≤ step → from + i * step < length xs → from + i * step ≢ but → so_far (i + 1) ≡ so_far i ++ get_or xs (from + i * step) d ∷ []
-  visits_kept i d turn far within other =
+  pub visits_kept : (i : ℕ) (d : X) → i < count → 1 ≤ step → from + i * step < length xs → so_far (i + 1) ≡ so_far i ++ get_or xs (from + i * step) d ∷ []
+  visits_kept i d turn far within =
       let place : ℕ = from + i * step in
       skip p 0 (suc place) (from + (i + 1) * step) xs (omega (arith, far)) (λ j low high. v.between i j turn (omega (arith, low)) (omega (arith, high)))
-      ∙ push p 0 place place xs d within (omega arith) (v.met i turn within ∙ ap not (ne_eqb place but other))
-
-  pub visits_left : (i : ℕ) → i < count → 1 ≤ step → from + i * step ≡ but → so_far (i + 1) ≡ so_far i
-  visits_left i turn far same =
-      let place : ℕ = from + i * step in
-      elim (cases_lt place (length xs)) as (λ _. so_far (i + 1) ≡ so_far i) [
-        | inl within ↦
-            skip p 0 place (from + (i + 1) * step) xs (omega arith) (λ j low high.
-            elim (cases_lt place j) as (λ _. p j ≡ false) [
-              | inl later ↦ v.between i j turn later (omega (arith, high))
-              | inr here ↦ subst (λ (k : ℕ). p k ≡ false) (let e : place ≡ j = omega (arith, low, here) in e) (v.met i turn within ∙ ap not (eq-eqb place but same))
-            ])
-        | inr out ↦ ap (passing p 0) (take_all (from + (i + 1) * step) xs (omega (arith, out)) ∙ sym (take_all place xs out))
-      ]
+      ∙ push p 0 place place xs d within (omega arith) (v.met i turn within)
 
   pub visits_out : (i : ℕ) → length xs ≤ from + i * step → so_far (i + 1) ≡ so_far i
   visits_out i out = ap (passing p 0) (take_all (from + (i + 1) * step) xs (omega (arith, out)) ∙ sym (take_all (from + i * step) xs out))
@@ -73,9 +60,9 @@ module _ {X : Type 0} (p : ℕ → Bool) (xs : List X) (from step count but : �
       ]
 
 -- as many literals as turns at most, those of the places so far
-pub record Gathered (xs : List Lit) (from step count but turn : ℕ) (ts : List Weighted) : Type 0 where
+pub record Gathered (xs : List Lit) (from step count turn : ℕ) (ts : List Weighted) : Type 0 where
   pub light : weight ts ≤ turn
-  pub met : (p : ℕ → Bool) → Visits p (length xs) from step count but → ts ≡ ones (passing p 0 (take (from + turn * step) xs))
+  pub met : (p : ℕ → Bool) → Visits p (length xs) from step count → ts ≡ ones (passing p 0 (take (from + turn * step) xs))
 
 -- ---- the lines of a side
 
@@ -85,20 +72,12 @@ record Lies (side : ℕ → ℕ) (k size from step count : ℕ) : Type 0 where
   between : (i j : ℕ) → i < count → from + i * step < j → j < from + (i + 1) * step → side j ≢ k
   behind : (j : ℕ) → from + count * step ≤ j → j < size → side j ≢ k
 
-line_visits : (side : ℕ → ℕ) (k size from step count : ℕ) → Lies side k size from step count → Visits (in_line side k) size from step count size
+line_visits : (side : ℕ → ℕ) (k size from step count : ℕ) → Lies side k size from step count → Visits (in_line side k) size from step count
 line_visits side k size from step count h = record {
   before = λ j low. ne_eqb (side j) k (h.before j low);
-  met = λ i turn within. eq-eqb (side (from + i * step)) k (h.met i turn) ∙ sym (ap not (ne_eqb (from + i * step) size (λ e. omega (arith, within, e))));
+  met = λ i turn within. eq-eqb (side (from + i * step)) k (h.met i turn);
   between = λ i j turn low high. ne_eqb (side j) k (h.between i j turn low high);
   behind = λ j low within. ne_eqb (side j) k (h.behind j low within);
-}
-
-beside_visits : (side : ℕ → ℕ) (e size from step count : ℕ) → Lies side (side e) size from step count → Visits (is_beside side e) size from step count e
-beside_visits side e size from step count h = record {
-  before = λ j low. ap (λ (b : Bool). b && not (eqb j e)) (ne_eqb (side j) (side e) (h.before j low));
-  met = λ i turn within. ap (λ (b : Bool). b && not (eqb (from + i * step) e)) (eq-eqb (side (from + i * step)) (side e) (h.met i turn));
-  between = λ i j turn low high. ap (λ (b : Bool). b && not (eqb j e)) (ne_eqb (side j) (side e) (h.between i j turn low high));
-  behind = λ j low within. ap (λ (b : Bool). b && not (eqb j e)) (ne_eqb (side j) (side e) (h.behind j low within));
 }
 
 row_lies : (q k size : ℕ) → 0 < q → Lies (row_of q) k size (k * q) 1 q
@@ -122,14 +101,8 @@ column_lies q r k size some within covered = record {
   behind = λ j low inside e. omega (arith, low, inside, covered);
 }
 
-pub row_line : (q k size : ℕ) → 0 < q → Visits (in_line (row_of q) k) size (k * q) 1 q size
+pub row_line : (q k size : ℕ) → 0 < q → Visits (in_line (row_of q) k) size (k * q) 1 q
 row_line q k size some = line_visits (row_of q) k size (k * q) 1 q (row_lies q k size some)
 
-pub column_line : (q r k size : ℕ) → 0 < q → k < q → size ≤ r * q → Visits (in_line (column_of q) k) size k q r size
+pub column_line : (q r k size : ℕ) → 0 < q → k < q → size ≤ r * q → Visits (in_line (column_of q) k) size k q r
 column_line q r k size some within covered = line_visits (column_of q) k size k q r (column_lies q r k size some within covered)
-
-pub row_beside : (q e size : ℕ) → 0 < q → Visits (is_beside (row_of q) e) size (e / q * q) 1 q e
-row_beside q e size some = beside_visits (row_of q) e size (e / q * q) 1 q (row_lies q (e / q) size some)
-
-pub column_beside : (q r e size : ℕ) → 0 < q → size ≤ r * q → Visits (is_beside (column_of q) e) size (e % q) q r e
-column_beside q r e size some covered = beside_visits (column_of q) e size (e % q) q r (column_lies q r (e % q) size some (mod_below e q some) covered)

@@ -1,5 +1,5 @@
 -- The items of a list at places that pass a test (our own).
-use Rattle.std.specs.Prelude.{◌≡◌, ◌≤◌, ◌<◌, ℕ, ◌+◌, ◌*◌, ◌==◌, ◌&&◌, Bool, false, not, List, [], ◌∷◌, if◌then◌else◌}
+use Rattle.std.specs.Prelude.{◌≡◌, ◌≤◌, ◌<◌, ℕ, ◌+◌, ◌*◌, ◌==◌, Bool, true, false, List, [], ◌∷◌, if◌then◌else◌}
 
 -- places are counted from e on
 abbrev pub passing : {X : Type 0} → (ℕ → Bool) → ℕ → List X → List X
@@ -10,13 +10,9 @@ passing p e (x ∷ xs) = if p e then x ∷ passing p (e + 1) xs else passing p (
 abbrev pub in_line : (ℕ → ℕ) → ℕ → ℕ → Bool
 in_line side k e = side e == k
 
--- whether another place is in the same line
-abbrev pub is_beside : (ℕ → ℕ) → ℕ → ℕ → Bool
-is_beside side e j = (side j == side e) && not (j == e)
-
--- Of so many places, a test passes those that are met from one on, each so far behind the last, but for one.
-pub record Visits (p : ℕ → Bool) (size from step count but : ℕ) : Type 0 where
+-- Of so many places, a test passes those that are met from one on, each so far behind the last.
+pub record Visits (p : ℕ → Bool) (size from step count : ℕ) : Type 0 where
   pub before : (j : ℕ) → j < from → p j ≡ false
-  pub met : (i : ℕ) → i < count → from + i * step < size → p (from + i * step) ≡ not (from + i * step == but)
+  pub met : (i : ℕ) → i < count → from + i * step < size → p (from + i * step) ≡ true
   pub between : (i j : ℕ) → i < count → from + i * step < j → j < from + (i + 1) * step → p j ≡ false
   pub behind : (j : ℕ) → from + count * step ≤ j → j < size → p j ≡ false

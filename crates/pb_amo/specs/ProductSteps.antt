@@ -5,15 +5,16 @@ use Rattle.pb_base.specs.declared.literal.Lit.{Lit}
 use Rattle.pb_base.specs.Literals.{negated}
 use Rattle.pb_steps.specs.declared.step.Step.{Step}
 use Rattle.pb_steps.specs.declared.step.Step.TheVariants.{Pol}
-use Rattle.pb_derive.specs.Claims.{claim_steps}
+use Rattle.pb_derive.specs.Claims.{Claim, claim_steps}
 use Rattle.pb_derive.specs.Deletions.{deletion_steps}
 use Rattle.pb_derive.specs.FollowedBy.{followed_by}
 use Rattle.pb_derive.specs.Reifications.{Reification, reification_steps}
 use Rattle.pb_derive.specs.Ones.{ones}
-use Rattle.pb_derive.specs.Justifications.{Justification, by_justification, adding}
+use Rattle.pb_derive.specs.Justifications.{adding}
+use Rattle.pb_derive.specs.Rups.{by_rup}
 use Rattle.pb_family.specs.Fresh.{literal_at, fresh_at}
 use Rattle.pb_amo.specs.PairwiseSteps.{pairwise_steps}
-use Rattle.pb_amo.specs.Passing.{passing, in_line, is_beside}
+use Rattle.pb_amo.specs.Passing.{passing, in_line}
 use Rattle.pb_amo.specs.Product.{rows, columns, line, fresh_within}
 
 -- ---- the lines of one side, the rows or the columns: each place is in one
@@ -25,13 +26,9 @@ line_reification side ms first k = record { var = first + k; sum = ones (passing
 abbrev pub line_reifications : (ℕ → ℕ) → List Lit → ℕ → ℕ → List Reification
 line_reifications side ms first count = map (line_reification side ms first) (range_with_len 0 count)
 
--- a literal that is true makes its line true
-abbrev pub line_justification : (ℕ → ℕ) → List Lit → ℕ → ℕ → ℕ → Justification
-line_justification side ms first id e = record {
-  clause = negated (literal_at ms e) ∷ fresh_at first (side e) ∷ [];
-  ids = (id + 2 * side e + 1) ∷ [];
-  weakened = map (λ l. l.var) (passing (is_beside side e) 0 ms);
-}
+-- a literal that is true makes its line true: where the line is false, all its literals are
+abbrev pub line_claim : (ℕ → ℕ) → List Lit → ℕ → ℕ → ℕ → Claim
+line_claim side ms first id e = by_rup ((id + 2 * side e + 1) ∷ []) (negated (literal_at ms e) ∷ fresh_at first (side e) ∷ [])
 
 -- where the first constraints of all lines are added to the literals' constraint, at most one line is left
 abbrev pub line_sum : ℕ → ℕ → ℕ → Step
@@ -53,14 +50,14 @@ abbrev pub grid_reifications : List Lit → ℕ → ℕ → ℕ → List Reifica
 grid_reifications ms first r q = line_reifications (row_of q) ms first r ++ line_reifications (column_of q) ms (first + r) q
 
 -- the reifications have the ids from `base` on
-abbrev pub cell_justifications : List Lit → ℕ → ℕ → ℕ → ℕ → ℕ → List Justification
-cell_justifications ms first r q base e = line_justification (row_of q) ms first base e ∷ line_justification (column_of q) ms (first + r) (base + 2 * r) e ∷ []
+abbrev pub cell_claims : List Lit → ℕ → ℕ → ℕ → ℕ → ℕ → List Claim
+cell_claims ms first r q base e = line_claim (row_of q) ms first base e ∷ line_claim (column_of q) ms (first + r) (base + 2 * r) e ∷ []
 
-abbrev pub cells_justifications : List Lit → ℕ → ℕ → ℕ → ℕ → List Justification
-cells_justifications ms first r q base = flat_map (cell_justifications ms first r q base) (range_with_len 0 (length ms))
+abbrev pub cells_claims : List Lit → ℕ → ℕ → ℕ → ℕ → List Claim
+cells_claims ms first r q base = flat_map (cell_claims ms first r q base) (range_with_len 0 (length ms))
 
 abbrev pub cells_steps : List Lit → ℕ → ℕ → ℕ → ℕ → ℕ → List Step
-cells_steps ms first r q base next = claim_steps next (map by_justification (cells_justifications ms first r q base))
+cells_steps ms first r q base next = claim_steps next (cells_claims ms first r q base)
 
 -- with so many grids at most, one inside another
 unfoldable pub steps_within : ℕ → List Lit → ℕ → ℕ → ℕ → List Step

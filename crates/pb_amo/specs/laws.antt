@@ -18,10 +18,10 @@ pub mod LineSums
 pub mod PairwiseDerives
 pub mod PairwiseLaws
 pub mod PairwiseShort
-pub mod PassingCounts
 pub mod PassingSums
 pub mod ProductDerives
 pub mod ProductLaws
 pub mod ProductLevels
 pub mod ProductLines
 pub mod ProductShort
+pub mod TwoLiterals

@@ -19,9 +19,10 @@ ghost use Rattle.pb_amo.specs.inner.ProductParts.{source_size, most_steps, sides
 use crate::cells::{Cells, derive_line_sum};
 use crate::claims::derive_pairs;
 use crate::grid::Grid;
+use crate::lines::Lines;
 use crate::sides::{Sides, fresh_of, sides_of};
 use crate::source::{Line, Source};
-use pb_family::{SinkResult, StepSink, claim_all, derive_deletion, derive_deletions, reify_all};
+use pb_family::{SinkResult, StepSink, derive_deletion, derive_deletions, derive_pieces};
 use std::alloc::Global;
 
 /// That at most one of some lines has a true literal, the steps of the grid of these lines, and that their sum goes.
@@ -105,8 +106,7 @@ pub fn derive_grid<T: StepSink>(
         first,
         sides,
     };
-    let cells = Cells { grid, base };
-    reify_all(alloc, &cells, sink)?;
-    claim_all(alloc, &cells, sink)?;
+    derive_pieces(alloc, &Lines { grid }, sink)?;
+    derive_pieces(alloc, &Cells { grid, base }, sink)?;
     derive_sides(alloc, id, base, first, sides, sink)
 }

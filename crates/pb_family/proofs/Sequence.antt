@@ -1,7 +1,8 @@
 -- Reifications, clauses and deletions that are handed over part by part.
 use Rattle.std.proofs.Common.{◌≡◌, ◌+◌, ◌*◌, ◌++◌, ℕ, zero, suc, Bool, true, false, cond, List, [], ◌∷◌, length, refl, sym, ap, ◌∙◌, arith, append_assoc, ltb, pos}
-use Rattle.std.specs.Prelude.{map, count_by, Result, IsErrAnd}
-use Rattle.std.specs.List.{range_with_len}
+use Rattle.std.specs.Prelude.{map, All, count_by, Result, IsErrAnd}
+use Rattle.std.specs.List.{range_with_len, flat_map}
+use Rattle.std.proofs.lemmas.List.Elements.{All-head, All-tail}
 use Rattle.std.proofs.lemmas.List.Sums.{sum_by-cons, sum_by-append}
 use Rattle.pb_norm.specs.Constraints.{weight}
 use Rattle.pb_steps.specs.declared.step.Step.{Step}
@@ -38,6 +39,14 @@ pub reifications_ids : (id : ℕ) (ms : List Reification) → count_by takes_id 
 reifications_ids id [] = refl
 reifications_ids id (m ∷ ms) = omega (arith, reification_counts id m ms, reifications_ids (id + 2) ms)
 
+pub claims_ids : (id : ℕ) (cs : List Claim) → All (λ c. takes_id c.step ≡ true) cs → count_by takes_id (claim_steps id cs) ≡ length cs
+claims_ids id [] h = refl
+claims_ids id (c ∷ cs) h =
+    let Takes : Claim → Type 0 = λ c. takes_id c.step ≡ true in
+    let bit : Step → ℕ = λ s. cond (takes_id s) 1 0 in
+    let own : cond {A = ℕ} (takes_id c.step) 1 0 ≡ 1 = ap (λ (b : Bool). cond {A = ℕ} b 1 0) (All-head Takes c cs h) in
+    omega (arith, sum_by-cons bit c.step (Out id ∷ claim_steps (id + 1) cs), sum_by-cons bit (Out id) (claim_steps (id + 1) cs), own, claims_ids (id + 1) cs (All-tail Takes c cs h))
+
 pub justifications_ids : (id : ℕ) (rs : List Justification) → count_by takes_id (claim_steps id (map by_justification rs)) ≡ length rs
 justifications_ids id [] = refl
 justifications_ids id (r ∷ rs) =
@@ -63,6 +72,12 @@ reifications_split id [] ys = ap (λ (n : ℕ). reification_steps n ys) (let e :
 reifications_split id (x ∷ xs) ys =
     ap (λ (ss : List Step). redundant (forward_of x) x.var false ∷ cond {A = Step} (ltb (weight x.sum) x.least) (Rup [] (pos 0) (id ∷ [])) (redundant (reverse_of x) x.var true) ∷ ss)
     (reifications_split (id + 2) xs ys ∙ ap (λ (n : ℕ). reification_steps (id + 2) xs ++ reification_steps n ys) (let e : id + 2 + 2 * length xs ≡ id + 2 * length (x ∷ xs) = omega arith in e))
+
+pub claims_split : (id : ℕ) (xs ys : List Claim) → claim_steps id (xs ++ ys) ≡ claim_steps id xs ++ claim_steps (id + length xs) ys
+claims_split id [] ys = ap (λ (n : ℕ). claim_steps n ys) (let e : id ≡ id + 0 = omega arith in e)
+claims_split id (x ∷ xs) ys =
+    ap (λ (ss : List Step). x.step ∷ Out id ∷ ss)
+    (claims_split (id + 1) xs ys ∙ ap (λ (n : ℕ). claim_steps (id + 1) xs ++ claim_steps n ys) (let e : id + 1 + length xs ≡ id + length (x ∷ xs) = omega arith in e))
 
 pub justifications_split : (id : ℕ) (xs ys : List Justification) → claim_steps id (map by_justification (xs ++ ys)) ≡ claim_steps id (map by_justification xs) ++ claim_steps (id + length xs) (map by_justification ys)
 justifications_split id [] ys = ap (λ (n : ℕ). claim_steps n (map by_justification ys)) (let e : id ≡ id + 0 = omega arith in e)
@@ -111,6 +126,18 @@ justification_piece f id k = claim_steps id (by_justification (f k) ∷ [])
 pub justification_pieces : (f : ℕ → Justification) (next a n : ℕ) → claim_steps next (map by_justification (map f (range_with_len a n))) ≡ pieces (justification_piece f) 1 next a n
 justification_pieces f next a zero = refl
 justification_pieces f next a (suc n) = ap (λ (ss : List Step). claim_steps next (by_justification (f a) ∷ []) ++ ss) (justification_pieces f (next + 1) (a + 1) n)
+
+pub claim_pieces : (f : ℕ → Claim) (next a n : ℕ) → claim_steps next (map f (range_with_len a n)) ≡ pieces (λ id k. claim_steps id (f k ∷ [])) 1 next a n
+claim_pieces f next a zero = refl
+claim_pieces f next a (suc n) = ap (λ (ss : List Step). claim_steps next (f a ∷ []) ++ ss) (claim_pieces f (next + 1) (a + 1) n)
+
+-- as many claims for each place
+pub flat_claims : (f : ℕ → List Claim) (width : ℕ) → ((k : ℕ) → length (f k) ≡ width) → (next a n : ℕ) → claim_steps next (flat_map f (range_with_len a n)) ≡ pieces (λ id k. claim_steps id (f k)) width next a n
+flat_claims f width each next a zero = refl
+flat_claims f width each next a (suc n) =
+    claims_split next (f a) (flat_map f (range_with_len (a + 1) n))
+    ∙ ap (λ (ss : List Step). claim_steps next (f a) ++ ss)
+    (ap (λ (w : ℕ). claim_steps (next + w) (flat_map f (range_with_len (a + 1) n))) (each a) ∙ flat_claims f width each (next + width) (a + 1) n)
 
 -- a deletion takes no id
 pub deletion_pieces : (width id next a n : ℕ) → deletion_steps width (id + width * a) n ≡ pieces (λ next k. Del (range_with_len (id + width * k) width) ∷ []) 0 next a n

@@ -1,12 +1,11 @@
 -- A grid's derivation in parts, as code hands them over.
 use Rattle.std.specs.Prelude.{ℕ, ◌+◌, ◌*◌, Bool, List, [], ◌∷◌, ◌++◌, length}
-use Rattle.pb_norm.specs.BoundedSums.{vars_of}
 use Rattle.pb_norm.specs.Constraints.{Weighted}
 use Rattle.pb_steps.specs.declared.step.Step.{Step}
 use Rattle.pb_derive.specs.Deletions.{deletion_steps}
 use Rattle.pb_derive.specs.FollowedBy.{followed_by}
 use Rattle.pb_derive.specs.Ones.{unit_of, ones}
-use Rattle.pb_family.specs.Derivations.{meant, claimed}
+use Rattle.pb_family.specs.Derivations.{meant}
 use Rattle.pb_family.specs.Fresh.{literal_at}
 use Rattle.pb_amo.specs.Passing.{passing, Visits}
 use Rattle.pb_amo.specs.Product.{line, product_fresh, product_count}
@@ -24,23 +23,19 @@ source_size s = length (source_literals s)
 abbrev pub unit_at : Source → ℕ → Weighted
 unit_at s e = unit_of (literal_at (source_literals s) e)
 
--- a test passes those at the places of a stride, but for one
-abbrev pub IsMet : Source → Stride → ℕ → (ℕ → Bool) → Type 0
-IsMet s w but p = Visits p (source_size s) w.from w.step w.count but
+-- a test passes those at the places of a stride
+abbrev pub IsMet : Source → Stride → (ℕ → Bool) → Type 0
+IsMet s w p = Visits p (source_size s) w.from w.step w.count
 
 -- the literals that a test passes, with the coefficient 1
 abbrev pub passed : Source → (ℕ → Bool) → List Weighted
 passed s p = ones (passing p 0 (source_literals s))
 
--- ---- lines and cells
+-- ---- lines
 
 -- a variable means that some of them is true
 abbrev pub line_steps : Source → ℕ → (ℕ → Bool) → ℕ → List Step
 line_steps s var p next = meant next var (passed s p) 1
-
--- a clause follows from a constraint without them
-abbrev pub beside_steps : Source → ℕ → (ℕ → Bool) → ℕ → List Step
-beside_steps s id p next = claimed next (id ∷ []) (vars_of (passed s p))
 
 -- ---- a grid
 

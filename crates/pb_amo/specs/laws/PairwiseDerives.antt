@@ -35,32 +35,7 @@ use Rattle.pb_amo.specs.inner.AtMostOne.{at_most_one}
 use Rattle.pb_amo.specs.Pairwise.{pairwise_clauses, pair_count}
 use Rattle.pb_amo.specs.PairwiseSteps.{pairwise_claims, pairwise_steps}
 use Rattle.pb_amo.specs.laws.PairwiseLaws.{pair_clause, by_pairs, pairwise_counts}
-
--- two variables are no tautology
-pair_plain : (k l : Lit) → k.var ≢ l.var → is_tautology (pair_clause k l) ≡ false
-pair_plain k l other =
-    let m : Lit = negated k in
-    let n : Lit = negated l in
-    or_from (is_same m (negated m) || (is_same n (negated m) || false)) ((is_same m (negated n) || (is_same n (negated n) || false)) || false)
-    (or_from (is_same m (negated m)) (is_same n (negated m) || false) (is_same-negated m) (or_from (is_same n (negated m)) false (is_same-other_var n (negated m) (λ e. other (sym e))) refl))
-    (or_from (is_same m (negated n) || (is_same n (negated n) || false)) false
-    (or_from (is_same m (negated n)) (is_same n (negated n) || false) (is_same-other_var m (negated n) other) (or_from (is_same n (negated n)) false (is_same-negated n) refl)) refl)
-
--- where two are true, the constraint falls short
-pair_short : (ms : List Lit) (d : Lit) (i j : ℕ) → i < j → j < length ms → (a : Assignment) → AllFalse a (pair_clause (get_or ms i d) (get_or ms j d)) → value a (map opposite (ones ms)) < weight (ones ms) - 1
-pair_short ms d i j before within a falses =
-    let k : Lit = get_or ms i d in
-    let l : Lit = get_or ms j d in
-    let one : lit_value a (negated k) ≡ false = All-head (λ (l : Lit). lit_value a l ≡ false) (negated k) (negated l ∷ []) falses in
-    let two : lit_value a (negated l) ≡ false = All-head (λ (l : Lit). lit_value a l ≡ false) (negated l) [] (All-tail (λ (l : Lit). lit_value a l ≡ false) (negated k) (negated l ∷ []) falses) in
-    omega (
-      arith,
-      value-opposite a (ones ms),
-      ones-sum (term_value a) ms,
-      two_places-le (λ (l : Lit). term_value a (unit_of l)) ms d i j before within,
-      value_whole a (unit_of k) one,
-      value_whole a (unit_of l) two,
-    )
+use Rattle.pb_amo.specs.laws.TwoLiterals.{pair_claims}
 
 -- ---- from a database that is ready
 
@@ -75,21 +50,13 @@ pairs_swept ms apart first id below db ready =
     (subst (λ (cs : List (List Lit)). RanSwept (IsUnder first) db (pairwise_steps ms id db.next) cs (length (pairwise_claims ms id))) (rup_clauses (id ∷ []) (pairwise_clauses ms))
     (claims_ran (IsUnder first) db (pairwise_claims ms id) ready.numbered (All-map (IsClaim (IsUnder first) db) (by_rup (id ∷ [])) (pairwise_clauses ms) claims)))
   where
-    two : (Q : Lit → Type 0) (k l : Lit) → Q (negated k) → Q (negated l) → All Q (pair_clause k l)
-    two Q k l h m = All-cons Q (negated k) (negated l ∷ []) h (All-cons Q (negated l) [] m (All-nil Q))
-
     claimed : (i j : ℕ) (d : Lit) → i < j → j < length ms → IsClaim (IsUnder first) db (by_rup (id ∷ []) (pair_clause (get_or ms i d) (get_or ms j d)))
     claimed i j d before within =
         let k : Lit = get_or ms i d in
         let l : Lit = get_or ms j d in
         let under_k : k.var < first = below i d (omega (arith, before, within)) in
         let under_l : l.var < first = below j d within in
-        short_claims (IsUnder first) db id (as_constraint (at_most_one ms)) (pair_clause k l) ready.numbered ready.stands (pair_plain k l (apart i j d before within)) (pair_short ms d i j before within)
-        (record {
-          named = two (λ (l : Lit). IsUnder first l.var) k l (omega (arith, under_k)) (omega (arith, under_l));
-          vars = two (λ (l : Lit). l.var ≤ db.vars) k l (omega (arith, under_k, ready.vars)) (omega (arith, under_l, ready.vars));
-          few = omega arith;
-        })
+        pair_claims (IsUnder first) db id ms d i j ready.numbered ready.stands before within (apart i j d before within) (omega (arith, under_k), omega (arith, under_k, ready.vars)) (omega (arith, under_l), omega (arith, under_l, ready.vars))
 
 -- ---- a sum of which at most one literal may be true is one of literals alone
 

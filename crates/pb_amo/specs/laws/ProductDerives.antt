@@ -18,7 +18,6 @@ use Rattle.pb_derive.specs.Later.{Knows, IsLater}
 use Rattle.pb_derive.specs.Reifications.{Reification, reification_steps, forward_of}
 use Rattle.pb_derive.specs.inner.Ran.{RanSwept, IsClaim}
 use Rattle.pb_derive.specs.inner.Meant.{IsMeant}
-use Rattle.pb_derive.specs.Justifications.{Justification, by_justification}
 use Rattle.pb_derive.proofs.FollowedBy.{followed_swept, swept_counted, later_wider}
 use Rattle.pb_derive.proofs.InRow.{AreInRow, IsFitReification, row-append, row_by_places, row_reifications}
 use Rattle.pb_derive.proofs.Laters.{known_below, later_knows, later_then}
@@ -32,8 +31,8 @@ use Rattle.pb_amo.specs.laws.GridSides.{columns_positive, row_within, sides_fit}
 use Rattle.pb_amo.specs.laws.PairwiseDerives.{pairs_swept, of_lits}
 use Rattle.pb_amo.specs.laws.LineLaws.{lines_each}
 use Rattle.pb_amo.specs.Product.{rows, columns, line, cells, cell, fresh_within, clauses_within, product_fresh, product_clauses}
-use Rattle.pb_amo.specs.laws.ProductLines.{line_fit, line_claim, Derivable, side_swept}
-use Rattle.pb_amo.specs.ProductSteps.{line_reification, line_reifications, line_justification, row_of, column_of, cell_justifications, cells_steps, product_steps}
+use Rattle.pb_amo.specs.laws.ProductLines.{line_fit, line_claims, Derivable, side_swept}
+use Rattle.pb_amo.specs.ProductSteps.{line_reification, line_reifications, line_claim, row_of, column_of, cell_claims, cells_claims, cells_steps, product_steps}
 use Rattle.pb_amo.specs.inner.AtMostOne.{at_most_one}
 use Rattle.pb_amo.specs.laws.GridCases.{rows_steps, columns_steps, grid_body, grid_steps, HoldsWithin, by_grids}
 use Rattle.pb_family.specs.Families.{VarsBelow}
@@ -41,9 +40,9 @@ use Rattle.pb_norm.specs.Reduction.{lits_of, all_weigh}
 use Rattle.pb_norm.specs.BoundedSums.{BoundedSum, IsOverDistinct}
 
 -- the clauses of the cells
-pub cells-clauses : (ms : List Lit) (first r q base a n : ℕ) → map (λ (c : Claim). c.clause) (map by_justification (flat_map (cell_justifications ms first r q base) (range_with_len a n))) ≡ flat_map (cell ms first r q) (range_with_len a n)
+pub cells-clauses : (ms : List Lit) (first r q base a n : ℕ) → map (λ (c : Claim). c.clause) (flat_map (cell_claims ms first r q base) (range_with_len a n)) ≡ flat_map (cell ms first r q) (range_with_len a n)
 cells-clauses ms first r q base a zero = refl
-cells-clauses ms first r q base a (suc n) = ap (λ (cs : List (List Lit)). (line_justification (row_of q) ms first base a).clause ∷ (line_justification (column_of q) ms (first + r) (base + 2 * r) a).clause ∷ cs) (cells-clauses ms first r q base (a + 1) n)
+cells-clauses ms first r q base a (suc n) = ap (λ (cs : List (List Lit)). (line_claim (row_of q) ms first base a).clause ∷ (line_claim (column_of q) ms (first + r) (base + 2 * r) a).clause ∷ cs) (cells-clauses ms first r q base (a + 1) n)
 
 -- ---- a grid
 
@@ -117,26 +116,26 @@ module _ (more : ℕ) (inductive : HoldsWithin Derivable more) (ms : List Lit) (
       (subst (λ (i : ℕ). IsMeant mid i (get_or lines (length by_rows + k) m)) (let e : db.next + 2 * (length by_rows + k) ≡ db.next + 2 * r + 2 * k = omega (arith, row_size) in e)
       (meant_at mid db.next lines (length by_rows + k) m (omega (arith, size, row_size, within)) meant.meant))
 
-  abbrev rs : List Justification
-  rs = flat_map (cell_justifications ms first r q db.next) (range_with_len 0 n)
+  abbrev rs : List Claim
+  rs = cells_claims ms first r q db.next
 
   mid_vars : first + r + q ≤ mid.vars + 1
   mid_vars = omega (arith, ready.vars, meant.ran.later.vars)
 
-  claims : All (λ r. IsClaim P mid (by_justification r)) rs
+  claims : All (IsClaim P mid) rs
   claims =
-      let Q : Justification → Type 0 = λ r. IsClaim P mid (by_justification r) in
-      flat_each Q (cell_justifications ms first r q db.next) 0 n (λ e low high.
-      All-cons Q (line_justification (row_of q) ms first db.next e) (line_justification (column_of q) ms (first + r) (db.next + 2 * r) e ∷ [])
-      (line_claim (row_of q) ms other few first below P mid first r db.next meant.ran.later.numbered (omega arith) (λ v h. omega (arith, h)) (omega (arith, mid_vars)) row_in at_row e (omega (arith, high)))
-      (All-cons Q (line_justification (column_of q) ms (first + r) (db.next + 2 * r) e) []
-      (line_claim (column_of q) ms other few first below P mid (first + r) q (db.next + 2 * r) meant.ran.later.numbered (omega arith) (λ v h. omega (arith, h)) (omega (arith, mid_vars)) column_in at_column e (omega (arith, high)))
+      let Q : Claim → Type 0 = IsClaim P mid in
+      flat_each Q (cell_claims ms first r q db.next) 0 n (λ e low high.
+      All-cons Q (line_claim (row_of q) ms first db.next e) (line_claim (column_of q) ms (first + r) (db.next + 2 * r) e ∷ [])
+      (line_claims (row_of q) ms other few first below P mid first r db.next meant.ran.later.numbered (omega arith) (λ v h. omega (arith, h)) (omega (arith, mid_vars)) row_in at_row e (omega (arith, high)))
+      (All-cons Q (line_claim (column_of q) ms (first + r) (db.next + 2 * r) e) []
+      (line_claims (column_of q) ms other few first below P mid (first + r) q (db.next + 2 * r) meant.ran.later.numbered (omega arith) (λ v h. omega (arith, h)) (omega (arith, mid_vars)) column_in at_column e (omega (arith, high)))
       (All-nil Q)))
 
-  cells_swept : RanSwept P mid (cells_steps ms first r q db.next mid.next) (cells ms first r q) (length (map by_justification rs))
+  cells_swept : RanSwept P mid (cells_steps ms first r q db.next mid.next) (cells ms first r q) (length rs)
   cells_swept =
-      subst (λ (cs : List (List Lit)). RanSwept P mid (cells_steps ms first r q db.next mid.next) cs (length (map by_justification rs))) (cells-clauses ms first r q db.next 0 n)
-      (claims_ran P mid (map by_justification rs) meant.ran.later.numbered (All-map (IsClaim P mid) by_justification rs claims))
+      subst (λ (cs : List (List Lit)). RanSwept P mid (cells_steps ms first r q db.next mid.next) cs (length rs)) (cells-clauses ms first r q db.next 0 n)
+      (claims_ran P mid rs meant.ran.later.numbered claims)
 
   abbrev db1 : Database
   db1 = cells_swept.ran.end
@@ -196,7 +195,7 @@ module _ (more : ℕ) (inductive : HoldsWithin Derivable more) (ms : List Lit) (
   all_clauses = cells ms first r q ++ (clauses_within more (line first r) inner ++ clauses_within more (line (first + r) q) last)
 
   abbrev ids_between : ℕ
-  ids_between = length (map by_justification rs) + (count_by takes_id (rows_steps more ms first id db.next db1.next) + count_by takes_id (columns_steps more ms first id db.next db2.next))
+  ids_between = length rs + (count_by takes_id (rows_steps more ms first id db.next db1.next) + count_by takes_id (columns_steps more ms first id db.next db2.next))
 
   body_swept : RanSwept Whole mid (grid_body more ms first id db.next mid.next) all_clauses ids_between
   body_swept =
@@ -204,7 +203,7 @@ module _ (more : ℕ) (inductive : HoldsWithin Derivable more) (ms : List Lit) (
       let es = clauses_within more (line (first + r) q) last in
       let f = rows_steps more ms first id db.next in
       let g = columns_steps more ms first id db.next in
-      let one : RanSwept Whole mid (cells_steps ms first r q db.next mid.next) (cells ms first r q) (length (map by_justification rs)) = record {
+      let one : RanSwept Whole mid (cells_steps ms first r q db.next mid.next) (cells ms first r q) (length rs) = record {
         ran = record { end = db1; runs = cells_swept.ran.runs; later = later_wider P Whole (λ v h. omega (arith, h)) mid db1 later_cells; next = cells_swept.ran.next };
         swept = cells_swept.swept;
         unmarked = cells_swept.unmarked;
@@ -225,7 +224,7 @@ module _ (more : ℕ) (inductive : HoldsWithin Derivable more) (ms : List Lit) (
         unmarked = columns_swept.unmarked;
       } in
       let back = followed_swept Whole db1 f g ds es (count_by takes_id (f db1.next)) (count_by takes_id (g db2.next)) two three in
-      followed_swept Whole mid (cells_steps ms first r q db.next) (followed_by f g) (cells ms first r q) (ds ++ es) (length (map by_justification rs)) (count_by takes_id (f db1.next) + count_by takes_id (g db2.next)) one back
+      followed_swept Whole mid (cells_steps ms first r q db.next) (followed_by f g) (cells ms first r q) (ds ++ es) (length rs) (count_by takes_id (f db1.next) + count_by takes_id (g db2.next)) one back
 
   grid_swept : RanSwept Whole db (grid_steps more ms first id db.next) all_clauses (count_by takes_id (grid_steps more ms first id db.next))
   grid_swept =

@@ -19,7 +19,6 @@ use Rattle.pb_steps.specs.Steps.{takes_id}
 use Rattle.pb_derive.specs.Later.{IsNumbered, IsUnnamed, Knows}
 use Rattle.pb_derive.specs.Reifications.{Reification, forward_of, reverse_of}
 use Rattle.pb_derive.specs.Ones.{unit_of, ones}
-use Rattle.pb_derive.specs.Justifications.{by_justification}
 use Rattle.pb_derive.specs.inner.Ran.{RanSwept, IsClaim}
 use Rattle.pb_derive.specs.inner.Meant.{IsMeant}
 use Rattle.pb_derive.specs.inner.Follows.{FollowsFrom, AllKnown}
@@ -27,11 +26,9 @@ use Rattle.pb_derive.proofs.ClauseClaims.{ones-apart}
 use Rattle.pb_derive.proofs.FollowedBy.{swept_counted, later_wider}
 use Rattle.pb_derive.proofs.InRow.{IsFitReification}
 use Rattle.pb_derive.proofs.KnownRanges.{known_range}
-use Rattle.pb_derive.proofs.Reasoned.{justification_claims}
 use Rattle.pb_derive.proofs.PinLemmas.{AreApartLits}
 use Rattle.pb_derive.proofs.Rups.{ones-weight}
 use Rattle.pb_derive.proofs.Scoped.{Scoped, scoped}
-use Rattle.pb_derive.proofs.SomeFollows.{some_follows}
 use Rattle.pb_derive.proofs.Summed.{Summed, summed}
 use Rattle.pb_derive.proofs.UnitTerms.{ones-all, ones-sum, vars-ones}
 use Rattle.pb_family.specs.Fresh.{positive_of, literal_at, fresh_at}
@@ -39,14 +36,12 @@ use Rattle.pb_family.proofs.Ranges.{range_each}
 use Rattle.pb_amo.specs.laws.GridCases.{HoldsWithin}
 use Rattle.pb_amo.specs.laws.LineLaws.{length-line}
 use Rattle.pb_amo.specs.laws.LineSums.{line-other, lines-sum}
-use Rattle.pb_amo.specs.Passing.{passing, in_line, is_beside}
-use Rattle.pb_amo.specs.laws.PassingSums.{passing-each, passing-all, passing-pairs, passing-le, passing-but}
+use Rattle.pb_amo.specs.Passing.{passing, in_line}
+use Rattle.pb_amo.specs.laws.PassingSums.{passing-all, passing-pairs, passing-le, passing-at}
 use Rattle.pb_amo.specs.Product.{line, fresh_within, clauses_within}
 use Rattle.pb_amo.specs.inner.AtMostOne.{at_most_one}
-use Rattle.pb_amo.specs.ProductSteps.{line_reification, line_justification, line_sum, side_steps, steps_within}
-
-not_listed : (x : ℕ) (vs : List ℕ) → All (λ v. v ≢ x) vs → ¬ Contains vs x
-not_listed x vs h c = h c.0 x c.1 c.2
+use Rattle.pb_amo.specs.ProductSteps.{line_reification, line_claim, line_sum, side_steps, steps_within}
+use Rattle.pb_amo.specs.laws.TwoLiterals.{Has, some_claims}
 
 module _ (side : ℕ → ℕ) (ms : List Lit) (other : AreApartLits ms) (few : length ms < 2 ^ 31) (first : ℕ) (below : All (λ l. l.var < first) ms) where
   abbrev some_weight : (ℕ → Bool) → ℕ
@@ -68,54 +63,23 @@ module _ (side : ℕ → ℕ) (ms : List Lit) (other : AreApartLits ms) (few : l
 
   -- ---- a literal makes its line true
 
-  abbrev rest : ℕ → List Lit
-  rest e = passing (is_beside side e) 0 ms
+  line_has : (e : ℕ) → e < length ms → Has (passing (in_line side (side e)) 0 ms) (literal_at ms e)
+  line_has e within f =
+      omega (
+        arith,
+        passing-at (λ (l : Lit). f (unit_of l)) (in_line side (side e)) e 0 e ms (positive_of 0) (omega arith) within (eq-eqb (side e) (side e) refl),
+        ones-sum f (passing (in_line side (side e)) 0 ms),
+      )
 
-  line_parts : (e : ℕ) → e < length ms → (f : Weighted → ℕ) → sum_by f (ones (passing (in_line side (side e)) 0 ms)) ≡ f (unit_of (literal_at ms e)) + sum_by f (ones (rest e))
-  line_parts e within f =
-      let but = passing-but (λ (l : Lit). f (unit_of l)) (in_line side (side e)) (is_beside side e) e 0 e ms (positive_of 0) (omega arith) within (eq-eqb (side e) (side e) refl)
-      (ap (λ (b : Bool). eqb (side e) (side e) && not b) (eq-eqb e e refl) ∙ and-false (eqb (side e) (side e)))
-      (λ j apart. ap (λ (b : Bool). eqb (side j) (side e) && not b) (ne_eqb j e apart) ∙ and-true (eqb (side j) (side e))) in
-      omega (arith, ones-sum f (passing (in_line side (side e)) 0 ms), but, ones-sum f (rest e))
-
-  rest_other : (e : ℕ) → e < length ms → All (λ l. l.var ≢ (literal_at ms e).var) (rest e)
-  rest_other e within =
-      passing-each (λ (l : Lit). l.var ≢ (literal_at ms e).var) (is_beside side e) 0 ms (λ j i d at inside passes.
-      let at_j : i ≡ j = omega (arith, at) in
-      let distinct : not (eqb j e) ≡ true = (and_parts (eqb (side j) (side e)) (not (eqb j e)) (subst (λ (i : ℕ). is_beside side e i ≡ true) at_j passes)).1 in
-      elim (cases_order j e) as (λ _. (get_or ms j d).var ≢ (literal_at ms e).var) [
-        | inl same ↦ λ is. true≢false (sym (eq-eqb j e same) ∙ not-true (eqb j e) distinct)
-        | inr apart ↦ elim apart as (λ _. (get_or ms j d).var ≢ (literal_at ms e).var) [
-          | inl before ↦ λ is. other j e d before within (is ∙ ap (λ (l : Lit). l.var) (get_or_default ms e (positive_of 0) d within))
-          | inr after ↦ λ is. other e j d after inside (sym (is ∙ ap (λ (l : Lit). l.var) (get_or_default ms e (positive_of 0) d within)))
-        ]
-      ])
-
-  pub line_claim : (P : ℕ → Type 0) (db : Database) (from w base : ℕ) → IsNumbered db → first ≤ from → ((v : ℕ) → v < from + w → P v) → from + w ≤ db.vars + 1 →
-      ((e : ℕ) → e < length ms → side e < w) → ((k : ℕ) → k < w → IsMeant db (base + 2 * k) (line_reification side ms from k)) → (e : ℕ) → e < length ms → IsClaim P db (by_justification (line_justification side ms from base e))
-  line_claim P db from w base numbered low named vars inside meant e within =
-      let m : Reification = line_reification side ms from (side e) in
+  pub line_claims : (P : ℕ → Type 0) (db : Database) (from w base : ℕ) → IsNumbered db → first ≤ from → ((v : ℕ) → v < from + w → P v) → from + w ≤ db.vars + 1 →
+      ((e : ℕ) → e < length ms → side e < w) → ((k : ℕ) → k < w → IsMeant db (base + 2 * k) (line_reification side ms from k)) → (e : ℕ) → e < length ms → IsClaim P db (line_claim side ms from base e)
+  line_claims P db from w base numbered low named vars inside meant e within =
       let l : Lit = literal_at ms e in
-      let ids : List ℕ = (base + 2 * side e + 1) ∷ [] in
-      let parts = line_parts e within in
+      let has = line_has e within in
       let count : side e < w = inside e within in
       let under : l.var < first = below e (positive_of 0) within in
-      let own : ¬ Contains (vars_of (ones (rest e))) l.var =
-      not_listed l.var (vars_of (ones (rest e))) (All-map (λ (v : ℕ). v ≢ l.var) (λ (t : Weighted). t.lit.var) (ones (rest e)) (ones-all (λ (t : Weighted). t.lit.var ≢ l.var) (rest e) (rest_other e within))) in
-      let rest_below : All (λ l. l.var < first) (rest e) = passing-all (λ (l : Lit). l.var < first) (is_beside side e) 0 ms below in
-      let fresh : ¬ Contains (vars_of (ones (rest e))) m.var =
-      not_listed m.var (vars_of (ones (rest e))) (All-map (λ (v : ℕ). v ≢ m.var) (λ (t : Weighted). t.lit.var) (ones (rest e)) (ones-all (λ (t : Weighted). t.lit.var ≢ m.var) (rest e) (All-weaker (λ (l : Lit). l.var < first) (λ (l : Lit). l.var ≢ m.var) (λ l h is. omega (arith, h, is, low)) (rest e) rest_below))) in
-      let follows = some_follows m (unit_of l) (ones (rest e)) ids parts (omega arith) (omega arith) (omega (arith, light (in_line side (side e)))) own fresh in
-      justification_claims P db (line_justification side ms from base e) numbered
-      (All-cons (λ (l : Lit). P l.var) (negated l) (fresh_at from (side e) ∷ []) (named l.var (omega (arith, under, low)))
-      (All-cons (λ (l : Lit). P l.var) (fresh_at from (side e)) [] (named (from + side e) (omega (arith, count))) (All-nil (λ (l : Lit). P l.var))))
-      (record {
-        some = λ e. cc;
-        sources = reverse_of m ∷ [];
-        found = ((meant (side e) count).second (omega (arith, parts (λ t. t.coef))), tt);
-        follows = subst (λ (vs : List ℕ). FollowsFrom (reverse_of m ∷ []) (record { clause = negated l ∷ fresh_at from (side e) ∷ []; ids = ids; weakened = vs })) (vars-ones (rest e)) follows;
-        vars_known = All-map (λ (v : ℕ). v ≤ db.vars) (λ (l : Lit). l.var) (rest e) (All-weaker (λ (l : Lit). l.var < first) (λ (l : Lit). l.var ≤ db.vars) (λ l h. omega (arith, h, low, vars, count)) (rest e) rest_below);
-      })
+      some_claims P db (base + 2 * side e + 1) (from + side e) (passing (in_line side (side e)) 0 ms) l numbered ((meant (side e) count).second (has (λ t. t.coef))) has
+      (λ e. omega (arith, e, under, low)) (named l.var (omega (arith, under, low)), omega (arith, under, low, vars, count)) (named (from + side e) (omega (arith, count)), omega (arith, vars, count))
 
 -- ---- at most one line
 

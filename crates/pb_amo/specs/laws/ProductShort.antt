@@ -1,14 +1,15 @@
 -- The lines of a grid's derivation are few, within their limits, and short.
-use Rattle.std.proofs.Common.{◌≡◌, ◌≤◌, ◌<◌, ◌+◌, ◌*◌, ◌/◌, ◌%◌, ◌^◌, ℕ, Bool, zero, suc, List, [], ◌∷◌, ◌++◌, length, length-append, refl, ap, subst, arith}
+use Rattle.std.proofs.Common.{◌≡◌, ◌≤◌, ◌<◌, ◌+◌, ◌*◌, ◌/◌, ◌%◌, ◌^◌, ℕ, Bool, true, zero, suc, List, [], ◌∷◌, ◌++◌, length, length-append, refl, ap, subst, arith}
 use Rattle.std.specs.Prelude.{All, map, sum_by, count_by}
 use Rattle.std.specs.List.{range_with_len, flat_map}
 use Rattle.std.proofs.Math.Nat.{mul-le-mul_right}
 use Rattle.std.proofs.lemmas.Nat.{mod_below}
 use Rattle.std.proofs.lemmas.List.{length-map}
 use Rattle.std.proofs.lemmas.List.FromFn.{length-map-range_with_len}
-use Rattle.std.proofs.lemmas.List.Elements.{All-nil, All-cons, All-map, All-weaker, recursion_from_All}
-use Rattle.std.proofs.lemmas.List.Sums.{sum_by-cons, sum_by-append, count_by-le-length}
+use Rattle.std.proofs.lemmas.List.Elements.{All-nil, All-cons, All-map, All-weaker, All-from_recursion, recursion_from_All}
+use Rattle.std.proofs.lemmas.List.Sums.{sum_by-cons, count_by-le-length}
 use Rattle.pb_base.specs.declared.literal.Lit.{Lit}
+use Rattle.pb_base.specs.Literals.{negated}
 use Rattle.pb_norm.specs.Constraints.{Weighted}
 use Rattle.pb_norm.specs.Reduction.{lits_of}
 use Rattle.pb_steps.specs.declared.step.Step.{Step}
@@ -16,45 +17,54 @@ use Rattle.pb_steps.specs.declared.step.Step.TheVariants.{Del}
 use Rattle.pb_steps.specs.Steps.{takes_id}
 use Rattle.pb_steps.specs.Sayable.{IsId, IsVariable, IsOp, IsSayable}
 use Rattle.pb_steps.specs.StepSizes.{step_size}
-use Rattle.pb_derive.specs.Claims.{claim_steps}
+use Rattle.pb_derive.specs.Claims.{Claim, claim_steps}
 use Rattle.pb_derive.specs.Deletions.{deletion_steps}
 use Rattle.pb_derive.specs.Reifications.{Reification, reification_steps}
 use Rattle.pb_derive.specs.Ones.{unit_of}
-use Rattle.pb_derive.specs.Justifications.{Justification, by_justification, adding}
+use Rattle.pb_derive.specs.Justifications.{adding}
 use Rattle.pb_derive.specs.Rups.{by_rup}
 use Rattle.pb_derive.specs.Short.{AreShort}
-use Rattle.pb_derive.proofs.Fine.{AreFine, fine_cons, fine_append, fine_within, fine_short, fine_reifications, fine_justifications, fine_deletions}
+use Rattle.pb_derive.proofs.Fine.{AreFine, fine_cons, fine_append, fine_within, fine_short, fine_claims, fine_reifications, fine_deletions}
 use Rattle.pb_derive.proofs.Phases.{length-reifications, length-claims, length-deletions}
 use Rattle.pb_derive.proofs.Rups.{ones-weight}
-use Rattle.pb_derive.proofs.Sayable.{IsSlimTerm, IsSlimReification}
-use Rattle.pb_derive.proofs.ShortJustifications.{IsSlimJustification, gone_in}
-use Rattle.pb_derive.proofs.Sizes.{adding-size}
+use Rattle.pb_derive.proofs.Sayable.{IsSlimTerm, IsSlimReification, rup_sayable}
+use Rattle.pb_derive.proofs.Sizes.{adding-size, rup-size}
 use Rattle.pb_derive.proofs.Summed.{adding-all}
 use Rattle.pb_derive.proofs.UnitTerms.{ones-all, ones-sum}
 use Rattle.pb_family.specs.Derivations.{AreOriginal, MayStart}
-use Rattle.pb_family.specs.Fresh.{fresh_at}
+use Rattle.pb_family.specs.Fresh.{positive_of, literal_at, fresh_at}
 use Rattle.pb_family.proofs.FlatRanges.{flat_each, length-flat_range}
 use Rattle.pb_family.proofs.Limits.{variables_of}
 use Rattle.pb_family.proofs.Ranges.{range_each}
-use Rattle.pb_family.proofs.Sequence.{justifications_ids}
+use Rattle.pb_family.proofs.Sequence.{claims_ids}
 use Rattle.pb_amo.specs.Pairwise.{pair_count, pairwise_clauses}
 use Rattle.pb_amo.specs.PairwiseSteps.{pairwise_claims, pairwise_steps}
-use Rattle.pb_amo.specs.Passing.{passing, in_line, is_beside}
+use Rattle.pb_amo.specs.Passing.{passing, in_line}
 use Rattle.pb_amo.specs.Product.{rows, columns, line, fresh_within, count_within, product_fresh, product_count}
-use Rattle.pb_amo.specs.ProductSteps.{line_reification, line_reifications, line_justification, line_sum, side_steps, row_of, column_of, grid_reifications, cell_justifications, cells_justifications, cells_steps, steps_within, product_steps}
+use Rattle.pb_amo.specs.ProductSteps.{line_reification, line_reifications, line_claim, line_sum, side_steps, row_of, column_of, grid_reifications, cell_claims, cells_claims, cells_steps, steps_within, product_steps}
 use Rattle.pb_amo.specs.laws.GridCounts.{count_linear}
 use Rattle.pb_amo.specs.laws.GridSides.{columns_positive, rows_positive, rows_are, row_within, sides_fit}
 use Rattle.pb_amo.specs.laws.LineLaws.{length-line, lines_each}
 use Rattle.pb_amo.specs.laws.PairwiseLaws.{pairs_count}
 use Rattle.pb_amo.specs.laws.PairwiseShort.{pairs_fine}
-use Rattle.pb_amo.specs.laws.PassingCounts.{beside-row, beside-column}
 use Rattle.pb_amo.specs.laws.PassingSums.{passing-all, passing-le}
 use Rattle.pb_amo.specs.laws.GridCases.{rows_steps, columns_steps, grid_steps, HoldsWithin, by_grids}
 
 -- ---- how many there are
 
-pub cells_count : (ms : List Lit) (first r q base : ℕ) → length (cells_justifications ms first r q base) ≡ 2 * length ms
-cells_count ms first r q base = omega (arith, length-flat_range (cell_justifications ms first r q base) 2 0 (length ms) (λ e. refl))
+pub cells_count : (ms : List Lit) (first r q base : ℕ) → length (cells_claims ms first r q base) ≡ 2 * length ms
+cells_count ms first r q base = omega (arith, length-flat_range (cell_claims ms first r q base) 2 0 (length ms) (λ e. refl))
+
+pub cells_ids : (ms : List Lit) (first r q base id : ℕ) → count_by takes_id (claim_steps id (cells_claims ms first r q base)) ≡ 2 * length ms
+cells_ids ms first r q base id =
+    let Takes : Claim → Type 0 = λ c. takes_id c.step ≡ true in
+    omega (
+      arith,
+      cells_count ms first r q base,
+      claims_ids id (cells_claims ms first r q base) (flat_each Takes (cell_claims ms first r q base) 0 (length ms) (λ e above to.
+      All-cons Takes (line_claim (row_of q) ms first base e) (line_claim (column_of q) ms (first + r) (base + 2 * r) e ∷ []) refl
+      (All-cons Takes (line_claim (column_of q) ms (first + r) (base + 2 * r) e) [] refl (All-nil Takes)))),
+    )
 
 pub reifications_count : (ms : List Lit) (first r q : ℕ) → length (grid_reifications ms first r q) ≡ r + q
 reifications_count ms first r q =
@@ -96,8 +106,7 @@ lines_within = by_grids FewLines (λ ms first id next. omega (arith, pairs_lines
       length-reifications next (grid_reifications ms first r q),
       reifications_count ms first r q,
       length-deletions 2 next (r + q),
-      length-claims k0 (map by_justification (cells_justifications ms first r q next)),
-      length-map (cells_justifications ms first r q next) by_justification,
+      length-claims k0 (cells_claims ms first r q next),
       cells_count ms first r q next,
       side_lines (line_sum id next r) (steps_within more (line first r) inner) k1,
       side_lines (line_sum id (next + 2 * r) q) (steps_within more (line (first + r) q) last) k2,
@@ -163,9 +172,9 @@ line_variables : (first w : ℕ) → 1 ≤ first → first + w ≤ 2 ^ 31 → Al
 line_variables first w low high =
     range_each (λ (l : Lit). IsVariable l.var) (fresh_at first) 0 w (λ k from to. ((let one : 1 ≤ first + k = omega (arith, low) in one), (let below : first + k < 2 ^ 31 = omega (arith, to, high) in below)))
 
-gone_flat : (f : ℕ → List Justification) (m : ℕ) → ((k : ℕ) → gone_in (f k) ≤ m) → (a n : ℕ) → gone_in (flat_map f (range_with_len a n)) ≤ n * m
-gone_flat f m each a zero = omega arith
-gone_flat f m each a (suc n) = omega (arith, sum_by-append (λ (r : Justification). length r.weakened) (f a) (flat_map f (range_with_len (a + 1) n)), each a, gone_flat f m each (a + 1) n)
+-- the step of a clause of two literals by one id
+abbrev IsFineClaim : Claim → Type 0
+IsFineClaim c = IsSayable c.step × (step_size c.step ≤ 175)
 
 module _ (N : ℕ) (ms : List Lit) (vars : All (λ l. IsVariable l.var) ms) (within : length ms ≤ N) (small : length ms < 2 ^ 31) where
   passing_few : (p : ℕ → Bool) → length (passing p 0 ms) ≤ length ms
@@ -184,30 +193,12 @@ module _ (N : ℕ) (ms : List Lit) (vars : All (λ l. IsVariable l.var) ms) (wit
   reification_few : (side : ℕ → ℕ) (from k : ℕ) → length (line_reification side ms from k).sum ≤ N
   reification_few side from k = omega (arith, length-map (passing (in_line side k) 0 ms) unit_of, passing_few (in_line side k), within)
 
-  justification_slim : (side : ℕ → ℕ) (from base e : ℕ) → IsId (base + 2 * side e + 1) → IsSlimJustification N (line_justification side ms from base e)
-  justification_slim side from base e is = record {
-    some = λ x. cc;
-    two = omega arith;
-    ids = All-cons IsId (base + 2 * side e + 1) [] is (All-nil IsId);
-    variables = All-map IsVariable (λ (l : Lit). l.var) (passing (is_beside side e) 0 ms) (passing-all (λ (l : Lit). IsVariable l.var) (is_beside side e) 0 ms vars);
-    few = omega (arith, length-map (passing (is_beside side e) 0 ms) (λ (l : Lit). l.var), passing_few (is_beside side e), within);
-  }
-
-  -- the variables that go, of all cells
-  cells_gone : (first r q base : ℕ) → 0 < q → length ms ≤ r * q → gone_in (cells_justifications ms first r q base) ≤ length ms * (q + r)
-  cells_gone first r q base some covered =
-      gone_flat (cell_justifications ms first r q base) (q + r) (λ e.
-      let one : Justification = line_justification (row_of q) ms first base e in
-      let two : Justification = line_justification (column_of q) ms (first + r) (base + 2 * r) e in
-      omega (
-        arith,
-        sum_by-cons (λ (r : Justification). length r.weakened) one (two ∷ []),
-        sum_by-cons (λ (r : Justification). length r.weakened) two [],
-        length-map (passing (is_beside (row_of q) e) 0 ms) (λ (l : Lit). l.var),
-        length-map (passing (is_beside (column_of q) e) 0 ms) (λ (l : Lit). l.var),
-        beside-row q e some ms,
-        beside-column q r e some ms covered,
-      )) 0 (length ms)
+  claim_fine : (side : ℕ → ℕ) (from base e : ℕ) → e < length ms → IsVariable (from + side e) → IsId (base + 2 * side e + 1) → IsFineClaim (line_claim side ms from base e)
+  claim_fine side from base e inside line is =
+      let clause : List Lit = negated (literal_at ms e) ∷ fresh_at from (side e) ∷ [] in
+      let ids : List ℕ = (base + 2 * side e + 1) ∷ [] in
+      (rup_sayable ids clause (All-cons IsId (base + 2 * side e + 1) [] is (All-nil IsId)) (All-from_recursion (λ (l : Lit). IsVariable l.var) clause (vars e (positive_of 0) inside, (line, tt))),
+      rup-size ids clause)
 
 -- the same of a line of fresh variables
 line_fine : (N more : ℕ) → HoldsWithin (Fine N) more → (first w : ℕ) → 1 ≤ first → first + w ≤ 2 ^ 31 → w ≤ N → w < 2 ^ 31 → (inner id next : ℕ) → 1 ≤ inner → inner + fresh_within more w ≤ 2 ^ 31 → IsId id → 1 ≤ next →
@@ -232,8 +223,8 @@ module _ (N more : ℕ) (fine : HoldsWithin (Fine N) more) (ms : List Lit) (vars
   abbrev lines : List Reification
   lines = grid_reifications ms first r q
 
-  abbrev rs : List Justification
-  rs = cells_justifications ms first r q next
+  abbrev rs : List Claim
+  rs = cells_claims ms first r q next
 
   some : 0 < q
   some = columns_positive n (omega (arith, many))
@@ -250,16 +241,18 @@ module _ (N more : ℕ) (fine : HoldsWithin (Fine N) more) (ms : List Lit) (vars
   lines_few : All (λ m. length m.sum ≤ N) lines
   lines_few = lines_each (λ m. length m.sum ≤ N) ms first r q (λ k to. reification_few N ms vars within small (row_of q) first k) (λ k to. reification_few N ms vars within small (column_of q) (first + r) k)
 
-  rs_slim : All (IsSlimJustification N) rs
-  rs_slim =
-      flat_each (IsSlimJustification N) (cell_justifications ms first r q next) 0 n (λ e above to.
+  rs_fine : All IsFineClaim rs
+  rs_fine =
+      flat_each IsFineClaim (cell_claims ms first r q next) 0 n (λ e above to.
       let row : e / q < r = row_within n e (omega (arith, to)) in
       let column : e % q < q = mod_below e q some in
-      All-cons (IsSlimJustification N) (line_justification (row_of q) ms first next e) (line_justification (column_of q) ms (first + r) (next + 2 * r) e ∷ [])
-      (justification_slim N ms vars within small (row_of q) first next e ((let one : 1 ≤ next + 2 * (e / q) + 1 = omega arith in one), (let below : next + 2 * (e / q) + 1 < 2 ^ 63 = omega (arith, row, high) in below)))
-      (All-cons (IsSlimJustification N) (line_justification (column_of q) ms (first + r) (next + 2 * r) e) []
-      (justification_slim N ms vars within small (column_of q) (first + r) (next + 2 * r) e ((let one : 1 ≤ next + 2 * r + 2 * (e % q) + 1 = omega arith in one), (let below : next + 2 * r + 2 * (e % q) + 1 < 2 ^ 63 = omega (arith, column, high) in below)))
-      (All-nil (IsSlimJustification N))))
+      All-cons IsFineClaim (line_claim (row_of q) ms first next e) (line_claim (column_of q) ms (first + r) (next + 2 * r) e ∷ [])
+      (claim_fine N ms vars within small (row_of q) first next e (omega (arith, to)) ((let one : 1 ≤ first + e / q = omega (arith, low) in one), (let below : first + e / q < 2 ^ 31 = omega (arith, row, fits) in below))
+      ((let one : 1 ≤ next + 2 * (e / q) + 1 = omega arith in one), (let below : next + 2 * (e / q) + 1 < 2 ^ 63 = omega (arith, row, high) in below)))
+      (All-cons IsFineClaim (line_claim (column_of q) ms (first + r) (next + 2 * r) e) []
+      (claim_fine N ms vars within small (column_of q) (first + r) (next + 2 * r) e (omega (arith, to)) ((let one : 1 ≤ first + r + e % q = omega (arith, low) in one), (let below : first + r + e % q < 2 ^ 31 = omega (arith, column, fits) in below))
+      ((let one : 1 ≤ next + 2 * r + 2 * (e % q) + 1 = omega arith in one), (let below : next + 2 * r + 2 * (e % q) + 1 < 2 ^ 63 = omega (arith, column, high) in below)))
+      (All-nil IsFineClaim)))
 
   abbrev k0 : ℕ
   k0 = next + 2 * (r + q)
@@ -267,13 +260,13 @@ module _ (N more : ℕ) (fine : HoldsWithin (Fine N) more) (ms : List Lit) (vars
   -- ---- the sides
 
   abbrev ss : List Step
-  ss = claim_steps k0 (map by_justification rs)
+  ss = claim_steps k0 rs
 
   abbrev k1 : ℕ
   k1 = k0 + count_by takes_id ss
 
   k1_is : k1 ≡ next + 2 * (r + q) + 2 * n
-  k1_is = omega (arith, justifications_ids k0 rs, cells_count ms first r q next)
+  k1_is = omega (arith, cells_ids ms first r q next k0)
 
   abbrev inner : ℕ
   inner = first + r + q
@@ -325,12 +318,13 @@ module _ (N more : ℕ) (fine : HoldsWithin (Fine N) more) (ms : List Lit) (vars
       let by_rows : ℕ = part r (fresh_within more r) (count_within more r) in
       let by_columns : ℕ = part q (fresh_within more q) (count_within more q) in
       let a : ℕ = (238 + 106 * N) * length lines in
-      let b : ℕ = 113 * length rs + 14 * gone_in rs in
+      let b : ℕ = (175 + 24) * length rs in
       let one = fine_reifications most N next lines (omega arith) from (omega (arith, size, high)) lines_slim lines_few in
-      let two = fine_justifications most N k0 rs (omega arith) (omega (arith, from)) (omega (arith, cells_count ms first r q next, high)) rs_slim in
+      let two = fine_claims most 175 k0 rs (omega arith) (omega arith) (omega (arith, from)) (omega (arith, cells_count ms first r q next, high)) (All-weaker IsFineClaim (λ (c : Claim). IsSayable c.step) (λ c h. h.0) rs rs_fine)
+      (All-weaker IsFineClaim (λ (c : Claim). step_size c.step ≤ 175) (λ c h. h.1) rs rs_fine) in
       let three = fine_deletions most next (r + q) (omega arith) from (omega (arith, high)) in
       fine_within most most (a + (b + (by_rows + by_columns) + 44 * (r + q))) _ (grid_steps more ms first id next) (omega arith)
-      (omega (arith, ap (λ (m : ℕ). (238 + 106 * N) * m) size, cells_count ms first r q next, cells_gone N ms vars within small first r q next some (rows_are n (omega (arith, many))).covers, mul-le-mul_right (q + r) within, some))
+      (omega (arith, ap (λ (m : ℕ). (238 + 106 * N) * m) size, cells_count ms first r q next, mul-le-mul_right (r + q) within, some))
       (fine_append most a (b + (by_rows + by_columns) + 44 * (r + q)) (reification_steps next lines) ((ss ++ (ts ++ us)) ++ ds) one
       (fine_append most (b + (by_rows + by_columns)) (44 * (r + q)) (ss ++ (ts ++ us)) ds (fine_append most b (by_rows + by_columns) ss (ts ++ us) two (fine_append most by_rows by_columns ts us rows_fine columns_fine)) three))
 

@@ -80,39 +80,39 @@ derive_grid-invariant_of-grid g t c =
     let few : c.len-count.result < 2 ^ 31 = omega (arith, c.len-count.ensures, c.requires.few) in
     record { few = c.requires.few; some = s.some; covered = omega (arith, s.covered, c.len-count.ensures); fit = grid_small _ _ _ s.fit few; low = c.requires.low; fits = omega (arith, reach) }
 
-pub derive_grid-reify_all-requires : goal.derive_grid-reify_all-requires
-derive_grid-reify_all-requires g t c =
-    let s = turn g t (goal.at.derive_grid-reify_all-requires g t c).After-next_id-base in
+pub derive_grid-derive_pieces-requires : goal.derive_grid-derive_pieces-requires
+derive_grid-derive_pieces-requires g t c =
+    let s = turn g t (goal.at.derive_grid-derive_pieces-requires g t c).After-next_id-base in
     record { few = omega (arith, c.requires.room, s.most) }
 
-pub derive_grid-returns-in_err-reify_all : goal.derive_grid-returns-in_err-reify_all
-derive_grid-returns-in_err-reify_all g t c =
-    let s = turn g t (goal.at.derive_grid-returns-in_err-reify_all g t c).After-next_id-base in
-    fault_in_lines (g.T.StepSink.state c.args.sink.now) s c.from_residual.result _ (g.T.StepSink.state c.reify_all.new.sink) c.from_residual.ensures.1 c.in_err-reify_all.ensures
+pub derive_grid-returns-in_err-derive_pieces : goal.derive_grid-returns-in_err-derive_pieces
+derive_grid-returns-in_err-derive_pieces g t c =
+    let s = turn g t (goal.at.derive_grid-returns-in_err-derive_pieces g t c).After-next_id-base in
+    fault_in_lines (g.T.StepSink.state c.args.sink.now) s c.from_residual.result _ (g.T.StepSink.state c.derive_pieces.new.sink) c.from_residual.ensures.1 c.in_err-derive_pieces.ensures
 
-pub derive_grid-claim_all-requires : goal.derive_grid-claim_all-requires
-derive_grid-claim_all-requires g t c =
-    let s = turn g t (goal.at.derive_grid-claim_all-requires g t c).After-next_id-base in
-    record { few = omega (arith, c.requires.room, s.most, lines_next (g.T.StepSink.state c.args.sink.now) s (g.T.StepSink.state c.reify_all.new.sink) c.in_ok-reify_all.ensures) }
+pub derive_grid-derive_pieces-requires-2 : goal.derive_grid-derive_pieces-requires-2
+derive_grid-derive_pieces-requires-2 g t c =
+    let s = turn g t (goal.at.derive_grid-derive_pieces-requires-2 g t c).After-next_id-base in
+    record { few = omega (arith, c.requires.room, s.most, lines_next (g.T.StepSink.state c.args.sink.now) s (g.T.StepSink.state c.derive_pieces.new.sink) c.in_ok-derive_pieces.ensures) }
 
-pub derive_grid-returns-in_err-claim_all : goal.derive_grid-returns-in_err-claim_all
-derive_grid-returns-in_err-claim_all g t c =
-    let s = turn g t (goal.at.derive_grid-returns-in_err-claim_all g t c).After-next_id-base in
-    fault_in_cells (g.T.StepSink.state c.args.sink.now) s (g.T.StepSink.state c.reify_all.new.sink) c.in_ok-reify_all.ensures c.from_residual-in_err-claim_all.result _ (g.T.StepSink.state c.claim_all.new.sink) c.from_residual-in_err-claim_all.ensures.1 c.in_err-claim_all.ensures
+pub derive_grid-returns-in_err-derive_pieces-2 : goal.derive_grid-returns-in_err-derive_pieces-2
+derive_grid-returns-in_err-derive_pieces-2 g t c =
+    let s = turn g t (goal.at.derive_grid-returns-in_err-derive_pieces-2 g t c).After-next_id-base in
+    fault_in_cells (g.T.StepSink.state c.args.sink.now) s (g.T.StepSink.state c.derive_pieces.new.sink) c.in_ok-derive_pieces.ensures c.from_residual-in_err-derive_pieces-2.result _ (g.T.StepSink.state c.derive_pieces-2.new.sink) c.from_residual-in_err-derive_pieces-2.ensures.1 c.in_err-derive_pieces-2.ensures
 
 pub derive_grid-derive_sides-requires : goal.derive_grid-derive_sides-requires
 derive_grid-derive_sides-requires g t c κs within =
     let at = goal.at.derive_grid-derive_sides-requires g t c in
     let s = turn g t at.After-next_id-base in
     let old = g.T.StepSink.state c.args.sink.now in
-    let lines = g.T.StepSink.state c.reify_all.new.sink in
-    let next = cells_next old s lines c.in_ok-reify_all.ensures (g.T.StepSink.state c.claim_all.new.sink) c.in_ok-claim_all.ensures in
+    let lines = g.T.StepSink.state c.derive_pieces.new.sink in
+    let next = cells_next old s lines c.in_ok-derive_pieces.ensures (g.T.StepSink.state c.derive_pieces-2.new.sink) c.in_ok-derive_pieces-2.ensures in
     (omega arith, (within, (c.requires.low, (reach g t at.After-next_id-base, (omega (arith, c.requires.room, s.most, c.next_id-base.ensures), omega (arith, c.requires.room, s.most, next))))))
 
 pub derive_grid-returns : goal.derive_grid-returns
 derive_grid-returns g t c =
     let s = turn g t (goal.at.derive_grid-returns g t c).After-next_id-base in
-    whole_grid (g.T.StepSink.state c.args.sink.now) s (g.T.StepSink.state c.reify_all.new.sink) c.in_ok-reify_all.ensures (g.T.StepSink.state c.claim_all.new.sink) c.in_ok-claim_all.ensures c.derive_sides.result (g.T.StepSink.state c.derive_sides.new.sink) c.derive_sides.ensures
+    whole_grid (g.T.StepSink.state c.args.sink.now) s (g.T.StepSink.state c.derive_pieces.new.sink) c.in_ok-derive_pieces.ensures (g.T.StepSink.state c.derive_pieces-2.new.sink) c.in_ok-derive_pieces-2.ensures c.derive_sides.result (g.T.StepSink.state c.derive_sides.new.sink) c.derive_sides.ensures
 
 -- ---- its rows and its columns
 
