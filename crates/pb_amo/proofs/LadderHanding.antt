@@ -1,24 +1,28 @@
 -- A ladder's clauses and derivation, one number after another.
-use Rattle.std.proofs.Common.{◌≡◌, ◌<◌, ◌+◌, ◌-◌, ◌*◌, ◌^◌, ◌∙◌, ℕ, true, List, [], ◌∷◌, map, length, take, drop, refl, ap, sym, arith}
+use Rattle.std.proofs.Common.{◌≡◌, ◌<◌, ◌≤◌, ◌+◌, ◌-◌, ◌*◌, ◌^◌, ◌∙◌, ◌++◌, ℕ, zero, suc, List, [], ◌∷◌, map, length, refl, ap, sym, arith, append_assoc, append-nil}
 use Rattle.std.specs.List.{range_with_len}
-use Rattle.std.proofs.lemmas.List.{length-map}
+use Rattle.pb_base.specs.declared.literal.Lit.{Lit}
 use Rattle.pb_base.specs.declared.literal.Term.{Term}
-use Rattle.pb_norm.specs.BoundedSums.{vars_of}
-use Rattle.pb_norm.specs.Constraints.{Weighted, weight, weighted, weights}
-use Rattle.pb_norm.specs.Reduction.{lits_of, all_weigh}
+use Rattle.pb_norm.specs.Constraints.{weights}
+use Rattle.pb_norm.specs.Reduction.{lits_of}
+use Rattle.pb_steps.specs.declared.step.Step.{Step}
 use Rattle.pb_derive.specs.Claims.{claim_steps}
-use Rattle.pb_derive.specs.Justifications.{Justification, by_justification}
-use Rattle.pb_derive.specs.Phases.{phases}
+use Rattle.pb_derive.specs.Deletions.{deletion_steps}
+use Rattle.pb_derive.specs.Ones.{unit_of}
 use Rattle.pb_derive.specs.Reifications.{reification_steps}
-use Rattle.pb_derive.proofs.UnitTerms.{weight-ones}
-use Rattle.pb_family.specs.Derivations.{meant, claimed}
-use Rattle.pb_family.specs.Numbered.{numbered_phases}
-use Rattle.pb_family.proofs.TermSlices.{literal_count, weights_from}
-use Rattle.pb_family.proofs.UnitCuts.{coefficients_one}
+use Rattle.pb_derive.specs.Rups.{by_rup}
+use Rattle.pb_family.specs.Derivations.{in_turn, meant, propagated}
+use Rattle.pb_family.specs.Fresh.{literal_at, fresh_at}
+use Rattle.pb_family.proofs.Sequence.{reification_pieces, claim_pieces, one_each}
+use Rattle.pb_family.proofs.TermSlices.{literal_count}
 use Rattle.pb_amo.specs.declared.rung.Place.{Place}
+use Rattle.pb_amo.specs.declared.rung_parts.RungPart.{RungPart}
+use Rattle.pb_amo.specs.declared.rung_parts.RungKind.TheVariants.{Meanings, Fronts, Clauses}
+use Rattle.pb_amo.specs.declared.rung_steps.RungSteps.{RungSteps}
 use Rattle.pb_amo.specs.Ladder.{ladder_clauses}
-use Rattle.pb_amo.specs.LadderSteps.{rung, rungs, clause_at, places, sources_at, beside_at, justification_at, ladder_steps}
+use Rattle.pb_amo.specs.LadderSteps.{rung, rungs, front_line, front_lines, fronts_at, clause_at, source_at, places, place_claim, ladder_steps}
 use Rattle.pb_amo.specs.inner.LadderOrder.{place_at}
+use Rattle.pb_amo.specs.inner.RungPieces.{literals_of, rung_count, rung_width, rung_piece}
 use Rattle.pb_amo.specs.laws.LadderPlaces.{ladder_by_places, order_map}
 
 pub clauses_by_number : (ts : List Term) (first : ℕ) → map (λ (k : ℕ). clause_at (lits_of (weights ts)) first (place_at (length ts) k)) (range_with_len 0 (3 * length ts - 4)) ≡ ladder_clauses (lits_of (weights ts)) first
@@ -26,22 +30,50 @@ clauses_by_number ts first =
     let ms = lits_of (weights ts) in
     sym (order_map (clause_at ms first) (length ts)) ∙ ap (λ (n : ℕ). map (clause_at ms first) (places n)) (sym (literal_count ts)) ∙ ladder_by_places ms first
 
-pub steps_by_number : (ts : List Term) (first id base next : ℕ) → base ≡ next
-    → numbered_phases (rung (weights ts) first) (length ts - 1) (λ k. justification_at (weights ts) first id base (place_at (length ts) k)) (3 * length ts - 4) next ≡ ladder_steps (weights ts) first id next
-steps_by_number ts first id base next is =
-    let size : length ts ≡ length (weights ts) = sym (length-map ts weighted) in
-    let each : ℕ → Place → Justification = justification_at (weights ts) first id in
-    (λ x. phases next (map (rung (weights ts) first) (range_with_len 0 (size x - 1))) (map by_justification (sym (order_map (each base) (length ts)) x)))
-    ∙ (λ x. phases next (rungs (weights ts) first) (map by_justification (map (each (is x)) (places (size x)))))
+-- a variable that is not the last, by the literal and the variable of the next place
+pub rung_same : (ts : List Term) (first number next : ℕ) (y l z : Lit) → 1 ≤ number → y ≡ fresh_at first (length ts - 2 - number) → l ≡ literal_at (lits_of (weights ts)) (length ts - 1 - number) → z ≡ fresh_at first (length ts - 2 - (number - 1))
+    → meant next y.var (unit_of l ∷ unit_of z ∷ []) 1 ≡ reification_steps next (rung (lits_of (weights ts)) first number ∷ [])
+rung_same ts first zero next y l z some is one other = absurd (omega (arith, some))
+rung_same ts first (suc j) next y l z some is one other =
+    let size : length ts ≡ length (lits_of (weights ts)) = sym (literal_count ts) in
+    let before : suc j - 1 ≡ j = omega arith in
+    λ x. meant next ((ap (λ (k : Lit). k.var) is ∙ ap (λ (n : ℕ). first + (n - 2 - suc j)) size) x)
+    (unit_of ((one ∙ ap (λ (n : ℕ). literal_at (lits_of (weights ts)) (n - 1 - suc j)) size) x) ∷ unit_of ((other ∙ (λ i. fresh_at first (size i - 2 - before i))) x) ∷ []) 1
 
--- ---- one step
+-- a clause of two literals, by its place
+pub claim_same : (ts : List Term) (first base next : ℕ) (p : Place) (id : ℕ) (c : List Lit) → id ≡ source_at (length ts) base p → c ≡ clause_at (lits_of (weights ts)) first p
+    → propagated next (id ∷ []) c ≡ claim_steps next (place_claim (lits_of (weights ts)) first base p ∷ [])
+claim_same ts first base next p id c from says =
+    λ x. claim_steps next (by_rup ((from ∙ ap (λ (n : ℕ). source_at n base p) (sym (literal_count ts))) x ∷ []) (says x) ∷ [])
 
-pub rung_same : (ts : List Term) (first k next var : ℕ) → var ≡ first + k → meant next var (weights (take (length ts - (k + 1)) (drop (k + 1) ts))) 1 ≡ reification_steps next (rung (weights ts) first k ∷ [])
-rung_same ts first k next var same = λ x. meant next (same x) (weights_from ts (k + 1) (k + 1) refl x) 1
+-- ---- the parts
 
-pub claim_same : (ts : List Term) (first id base next : ℕ) (p : Place) (ids : List ℕ) (us : List Term) → ids ≡ sources_at id base p → weights us ≡ beside_at (weights ts) p
-    → claimed next ids (vars_of (weights us)) ≡ claim_steps next (by_justification (justification_at (weights ts) first id base p) ∷ [])
-claim_same ts first id base next p ids us found left = λ x. claimed next (found x) (vars_of (left x))
+abbrev pub parts_of : RungSteps → List RungPart
+parts_of s = record { steps = s; kind = Meanings } ∷ record { steps = s; kind = Fronts } ∷ record { steps = s; kind = Clauses } ∷ []
 
-pub unit_light : (ts : List Weighted) → all_weigh 1 ts ≡ true → length ts < 2 ^ 31 → weight ts < 2 ^ 100
-unit_light ts units few = omega (arith, weight-ones ts (coefficients_one ts units), few)
+abbrev pub parts_steps : RungSteps → ℕ → List Step
+parts_steps s next = in_turn (λ (p : RungPart). rung_count p.kind p.steps) (λ (p : RungPart). rung_width p.kind) (λ (p : RungPart). rung_piece p.kind p.steps) next (parts_of s)
+
+regroup : (ps qs rs ss : List Step) → (ps ++ (qs ++ (rs ++ []))) ++ ss ≡ (ps ++ qs) ++ (rs ++ ss)
+regroup ps qs rs ss =
+    ap (λ (xs : List Step). (ps ++ (qs ++ xs)) ++ ss) (append-nil rs) ∙ ap (λ (xs : List Step). xs ++ ss) (sym (append_assoc ps qs rs)) ∙ append_assoc (ps ++ qs) rs ss
+
+-- and what goes at the end
+pub ladder_in_parts : (s : RungSteps) (next : ℕ) → s.base ≡ next → parts_steps s next ++ deletion_steps 3 s.base (length s.rungs.terms.now - 1) ≡ ladder_steps (weights s.rungs.terms.now) s.rungs.first s.id next
+ladder_in_parts s next is =
+    let ts : List Term = s.rungs.terms.now in
+    let ms : List Lit = literals_of s in
+    let first : ℕ = s.rungs.first in
+    let n : ℕ = length ts in
+    let size : n ≡ length ms = sym (literal_count ts) in
+    let start : next + 2 * (n - 1) + 1 * (n - 1) ≡ next + 3 * (n - 1) = omega arith in
+    let meanings : List Step = reification_steps next (map (rung ms first) (range_with_len 0 (n - 1))) in
+    let fronts : List Step = map (front_line s.id s.base (fronts_at n s.base)) (range_with_len 0 (n - 1)) in
+    let clauses : List Step = claim_steps (next + 3 * (n - 1)) (map (place_claim ms first s.base) (places n)) in
+    (λ x. (sym (reification_pieces (rung ms first) next 0 (n - 1)) x
+    ++ (one_each (front_line s.id s.base (fronts_at n s.base)) (next + 2 * (n - 1)) 0 (n - 1) x
+    ++ ((sym (claim_pieces (λ k. place_claim ms first s.base (place_at n k)) (next + 2 * (n - 1) + 1 * (n - 1)) 0 (3 * n - 4)) ∙ (λ y. claim_steps (start y) (sym (order_map (place_claim ms first s.base) n) y))) x ++ [])))
+    ++ deletion_steps 3 s.base (n - 1))
+    ∙ regroup meanings fronts clauses (deletion_steps 3 s.base (n - 1))
+    ∙ (λ x. (reification_steps next (map (rung ms first) (range_with_len 0 (size x - 1))) ++ map (front_line s.id (is x) (fronts_at (size x) (is x))) (range_with_len 0 (size x - 1)))
+    ++ (claim_steps (next + 3 * (size x - 1)) (map (place_claim ms first (is x)) (places (size x))) ++ deletion_steps 3 (is x) (size x - 1)))

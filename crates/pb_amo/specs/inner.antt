@@ -2,4 +2,5 @@ pub mod AtMostOne
 pub mod GridOrder
 pub mod LadderOrder
 pub mod ProductParts
+pub mod RungPieces
 pub mod Source

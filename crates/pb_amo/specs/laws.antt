@@ -8,8 +8,7 @@ pub mod GridNames
 pub mod GridPushes
 pub mod GridSides
 pub mod LadderDerives
-pub mod LadderFollows
-pub mod LadderJustifications
+pub mod LadderFronts
 pub mod LadderLaws
 pub mod LadderPlaces
 pub mod LadderShort

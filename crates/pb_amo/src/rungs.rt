@@ -44,7 +44,7 @@ impl Rungs<'_> {
     }
 
     /// The two literals of the clause with a number.
-    fn pair(&self, number: usize) -> (Lit, Lit)
+    pub fn pair(&self, number: usize) -> (Lit, Lit)
         requires { number < 3 * length self.now.terms.now - 4 }
         ensures { (result.0 ∷ result.1 ∷ []) ≡ clause_at (lits_of (weights self.now.terms.now)) self.now.first (place_at (length self.now.terms.now) number) }
     {

@@ -9,7 +9,7 @@ use Rattle.pb_steps.specs.declared.step.Step.TheVariants.{Out, Del}
 use Rattle.pb_derive.specs.Outputs.{Output, output_steps}
 use Rattle.pb_derive.specs.Reifications.{reification_steps}
 use Rattle.pb_family.specs.Derivations.{pieces, in_turn, ids_in_turn}
-use Rattle.pb_family.proofs.Sequence.{reification_piece, reification_pieces}
+use Rattle.pb_family.proofs.Sequence.{reification_piece, reification_pieces, one_each}
 use Rattle.pb_counter.specs.CounterHalves.{first_count, first_counts, first_line, first_order_line, first_at, first_order_at, first_fronts_at, total_line, first_output, first_outputs, first_steps}
 use Rattle.pb_counter.specs.CounterRows.{front_line, front_lines}
 use Rattle.pb_counter.specs.inner.FirstParts.{first_parts}
@@ -17,7 +17,7 @@ use Rattle.pb_counter.specs.inner.FirstPieces.{first_kinds, first_width, first_p
 use Rattle.pb_counter.specs.inner.PlacePieces.{front_piece}
 use Rattle.pb_counter.specs.declared.first_row.FirstRow.{FirstRow}
 use Rattle.pb_counter.specs.declared.first_parts.FirstPart.{FirstPart}
-use Rattle.pb_counter.proofs.RowHanding.{one_each, outs_alone, first_and_later, behind}
+use Rattle.pb_counter.proofs.RowHanding.{outs_alone, first_and_later, behind}
 
 module _ (l : Lit) (p last id next : ℕ) where
   abbrev rows : ℕ → ℕ → ℕ → ℕ → List Step

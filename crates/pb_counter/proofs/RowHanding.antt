@@ -13,7 +13,7 @@ use Rattle.pb_derive.specs.Reifications.{reification_steps}
 use Rattle.pb_family.specs.Derivations.{pieces, in_turn, ids_in_turn}
 use Rattle.pb_family.specs.Fresh.{positive_of}
 use Rattle.pb_family.proofs.Ranges.{range_same}
-use Rattle.pb_family.proofs.Sequence.{reification_piece, reification_pieces}
+use Rattle.pb_family.proofs.Sequence.{reification_piece, reification_pieces, one_each}
 use Rattle.pb_counter.specs.CounterRows.{next_count, next_counts, fall_line, more_line, keep_line, stop_line, order_line, part_line, part_lines, front_line, front_lines, falls_at, parts_at, keeps_at, order_at, fronts_at, stop_at, stop_clause, place_outputs, row_outputs, row_deleted, row_steps}
 use Rattle.pb_counter.specs.inner.PlacePieces.{part_piece, front_piece}
 use Rattle.pb_counter.specs.inner.RowParts.{row_parts}
@@ -35,11 +35,6 @@ part_without p fronts counts falls parts j {mul = mul} {other = other} {div = di
     λ i. Pol (Push (parts + j) ∷ one i ∷ Push (fronts + j) ∷ Add ∷ Push (falls + j) ∷ two i ∷ Add ∷ Push (counts + 2 * above i) ∷ Weaken (is i).var ∷ Div (pos 2) ∷ Add ∷ three i ∷ []) ∷ []
 
 -- ---- pieces as lists
-
--- of one step each
-pub one_each : (f : ℕ → Step) (next a n : ℕ) → pieces (λ id k. f k ∷ []) 1 next a n ≡ map f (range_with_len a n)
-one_each f next a zero = refl
-one_each f next a (suc n) = ap (λ (ss : List Step). f a ∷ ss) (one_each f (next + 1) (a + 1) n)
 
 -- of clauses that are put out
 pub outs_each : (f : ℕ → List Output) (next a n : ℕ) → pieces (λ id k. output_steps (f k)) 0 next a n ≡ output_steps (flat_map f (range_with_len a n))

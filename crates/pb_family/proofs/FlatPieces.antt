@@ -2,17 +2,14 @@
 use Rattle.std.proofs.Common.{◌≡◌, ◌+◌, ◌*◌, ◌++◌, ℕ, zero, suc, List, ◌∷◌, map, length, refl, ap, ◌∙◌, arith}
 use Rattle.std.specs.Prelude.{Result, IsErrAnd}
 use Rattle.std.specs.List.{range_with_len, flat_map}
-use Rattle.std.proofs.lemmas.List.FromFn.{length-map-range_with_len}
 use Rattle.pb_steps.specs.declared.step.Step.{Step}
 use Rattle.pb_derive.specs.Claims.{claim_steps}
 use Rattle.pb_derive.specs.Justifications.{Justification, by_justification}
-use Rattle.pb_derive.specs.Reifications.{Reification, reification_steps}
 use Rattle.pb_family.specs.Derivations.{pieces}
-use Rattle.pb_family.specs.Numbered.{reifications_by_number}
 use Rattle.pb_family.specs.StepSinks.{StepState, TakesSteps, StopsInSteps, HandsSteps}
 use Rattle.pb_family.specs.declared.sink.SinkFault.{SinkFault}
 use Rattle.pb_family.proofs.Deriving.{deriving_from, deriving_as, deriving_step, steps_fault, steps_last}
-use Rattle.pb_family.proofs.Sequence.{reifications_ids, justifications_ids, justifications_split}
+use Rattle.pb_family.proofs.Sequence.{justifications_ids, justifications_split}
 
 -- as many justifications for each place
 pub flat_pieces : (f : ℕ → List Justification) (width : ℕ) → ((k : ℕ) → length (f k) ≡ width) → (next a n : ℕ) → claim_steps next (map by_justification (flat_map f (range_with_len a n))) ≡ pieces (λ id k. claim_steps id (map by_justification (f k))) width next a n
@@ -46,6 +43,3 @@ justifications_stopped r f xs ys old after is h =
 -- so many ids were taken
 pub justifications_next : {R : Type 0} (xs : List Justification) (old mid : StepState R) → TakesSteps (claim_steps old.next (map by_justification xs)) old mid → mid.next ≡ old.next + length xs
 justifications_next xs old mid h = omega (arith, h.ids, justifications_ids old.next xs)
-
-pub reifications_next : {R : Type 0} (f : ℕ → Reification) (n : ℕ) (old mid : StepState R) → TakesSteps (reification_steps old.next (reifications_by_number f n)) old mid → mid.next ≡ old.next + 2 * n
-reifications_next f n old mid h = omega (arith, h.ids, reifications_ids old.next (reifications_by_number f n), length-map-range_with_len f 0 n)

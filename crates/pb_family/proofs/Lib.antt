@@ -22,6 +22,4 @@ pub mod Stopping
 pub mod Taking
 pub mod TermSlices
 pub mod TermVars
-pub mod UnitCuts
-pub mod UnitDerivations
 pub mod UnitSums

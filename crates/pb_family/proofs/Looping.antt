@@ -1,17 +1,16 @@
 -- Loops that hand over steps for one place after another.
 use Rattle.std.proofs.Common.{◌≡◌, ◌<◌, ◌+◌, ◌-◌, ◌*◌, ◌++◌, ℕ, suc, List, ap, sym, subst, refl, arith}
 use Rattle.std.specs.Prelude.{map, count_by, Result, IsErrAnd}
+use Rattle.std.specs.List.{range_with_len}
 use Rattle.pb_steps.specs.declared.step.Step.{Step}
 use Rattle.pb_steps.specs.Steps.{takes_id}
 use Rattle.pb_family.specs.Derivations.{pieces}
 use Rattle.pb_derive.specs.Claims.{claim_steps}
 use Rattle.pb_derive.specs.Justifications.{Justification, by_justification}
-use Rattle.pb_derive.specs.Reifications.{Reification, reification_steps}
-use Rattle.pb_family.specs.Numbered.{justifications_by_number, reifications_by_number}
 use Rattle.pb_family.specs.StepSinks.{StepState, TakesSteps, StopsInSteps, HandsSteps, HandsFrom}
 use Rattle.pb_family.specs.declared.sink.SinkFault.{SinkFault}
 use Rattle.pb_family.proofs.Deriving.{Deriving, deriving_from, deriving_as, deriving_step, deriving_ends, steps_fault, steps_same}
-use Rattle.pb_family.proofs.Sequence.{reification_piece, reification_pieces, reification_ids, justification_piece, justification_pieces}
+use Rattle.pb_family.proofs.Sequence.{justification_piece, justification_pieces}
 
 -- of n pieces, each of which takes so many ids, the first k were taken
 pub record Looping {R : Type 0} (piece : ℕ → ℕ → List Step) (width n k : ℕ) (old now : StepState R) : Type 0 where
@@ -60,8 +59,5 @@ module _ {R : Type 0} {steps : ℕ → List Step} {piece : ℕ → ℕ → List 
   pub pieces_end : k ≡ n → TakesSteps (steps old.next) old now
   pieces_end all = subst (λ (ss : List Step). TakesSteps ss old now) (sym (made.same old.next)) (looping_ends piece width n k old now all h)
 
-pub reifications_are : (f : ℕ → Reification) (n : ℕ) → ArePieces (λ next. reification_steps next (reifications_by_number f n)) (reification_piece f) 2 n
-reifications_are f n = record { same = λ next. reification_pieces f next 0 n; ids = λ next k. reification_ids next (f k) }
-
-pub justifications_are : (f : ℕ → Justification) (n : ℕ) → ArePieces (λ next. claim_steps next (map by_justification (justifications_by_number f n))) (justification_piece f) 1 n
+pub justifications_are : (f : ℕ → Justification) (n : ℕ) → ArePieces (λ next. claim_steps next (map by_justification (map f (range_with_len 0 n)))) (justification_piece f) 1 n
 justifications_are f n = record { same = λ next. justification_pieces f next 0 n; ids = λ next k. refl }

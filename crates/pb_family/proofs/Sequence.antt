@@ -127,6 +127,11 @@ pub justification_pieces : (f : ℕ → Justification) (next a n : ℕ) → clai
 justification_pieces f next a zero = refl
 justification_pieces f next a (suc n) = ap (λ (ss : List Step). claim_steps next (by_justification (f a) ∷ []) ++ ss) (justification_pieces f (next + 1) (a + 1) n)
 
+-- of one step each
+pub one_each : (f : ℕ → Step) (next a n : ℕ) → pieces (λ id k. f k ∷ []) 1 next a n ≡ map f (range_with_len a n)
+one_each f next a zero = refl
+one_each f next a (suc n) = ap (λ (ss : List Step). f a ∷ ss) (one_each f (next + 1) (a + 1) n)
+
 pub claim_pieces : (f : ℕ → Claim) (next a n : ℕ) → claim_steps next (map f (range_with_len a n)) ≡ pieces (λ id k. claim_steps id (f k ∷ [])) 1 next a n
 claim_pieces f next a zero = refl
 claim_pieces f next a (suc n) = ap (λ (ss : List Step). claim_steps next (f a ∷ []) ++ ss) (claim_pieces f (next + 1) (a + 1) n)

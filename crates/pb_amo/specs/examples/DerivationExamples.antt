@@ -32,22 +32,24 @@ pairs_of_three = refl
 
 pub ladder_of_three :
     lines (ladder_steps (ones three) 4 1 2)
-    ≡ (codes "red +1 ~x4 +1 x2 +1 x3 >= 1 ; x4 -> 0"
-    ∷ codes "red +2 x4 +1 ~x2 +1 ~x3 >= 2 ; x4 -> 1"
-    ∷ codes "red +1 ~x5 +1 x3 >= 1 ; x5 -> 0"
+    ≡ (codes "red +1 ~x5 +1 x3 >= 1 ; x5 -> 0"
     ∷ codes "red +1 x5 +1 ~x3 >= 1 ; x5 -> 1"
-    ∷ codes "pol 4 3 + x2 w 85070591730234615865843651857942052863 d"
-    ∷ codes "out 6"
-    ∷ codes "pol 2 1 + 85070591730234615865843651857942052863 d"
-    ∷ codes "out 7"
-    ∷ codes "pol 4 1 + x1 w 85070591730234615865843651857942052863 d"
+    ∷ codes "red +1 ~x4 +1 x2 +1 x5 >= 1 ; x4 -> 0"
+    ∷ codes "red +2 x4 +1 ~x2 +1 ~x5 >= 2 ; x4 -> 1"
+    ∷ codes "pol 1 2 +"
+    ∷ codes "pol 6 4 +"
+    ∷ codes "rup +1 ~x5 +1 x4 >= 1 ; 5"
     ∷ codes "out 8"
-    ∷ codes "pol 3 x3 w 85070591730234615865843651857942052863 d"
+    ∷ codes "rup +1 ~x1 +1 ~x4 >= 1 ; 7"
     ∷ codes "out 9"
-    ∷ codes "pol 5 85070591730234615865843651857942052863 d"
+    ∷ codes "rup +1 ~x2 +1 ~x5 >= 1 ; 6"
     ∷ codes "out 10"
-    ∷ codes "del 2 3"
-    ∷ codes "del 4 5"
+    ∷ codes "rup +1 ~x2 +1 x4 >= 1 ; 5"
+    ∷ codes "out 11"
+    ∷ codes "rup +1 ~x3 +1 x5 >= 1 ; 3"
+    ∷ codes "out 12"
+    ∷ codes "del 2 3 4"
+    ∷ codes "del 5 6 7"
     ∷ [])
 unfolding digits
 ladder_of_three = refl

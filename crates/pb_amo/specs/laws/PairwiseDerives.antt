@@ -30,7 +30,7 @@ use Rattle.pb_derive.proofs.Running.{claims_ran}
 use Rattle.pb_derive.proofs.ShortRups.{short_claims}
 use Rattle.pb_derive.proofs.UnitTerms.{ones-sum, ones-lits}
 use Rattle.pb_family.specs.Families.{VarsBelow}
-use Rattle.pb_family.proofs.UnitSums.{unit_coefficient}
+use Rattle.pb_family.proofs.UnitSums.{coefficients_one}
 use Rattle.pb_amo.specs.inner.AtMostOne.{at_most_one}
 use Rattle.pb_amo.specs.Pairwise.{pairwise_clauses, pair_count}
 use Rattle.pb_amo.specs.PairwiseSteps.{pairwise_claims, pairwise_steps}
@@ -67,7 +67,7 @@ pub record IsOfLits (first : ℕ) (c : BoundedSum) : Type 0 where
 
 pub of_lits : (c : BoundedSum) → c.bound ≡ 1 → all_weigh 1 c.terms ≡ true → IsOverDistinct c.terms → (first : ℕ) → VarsBelow first c.terms → IsOfLits first c
 of_lits c one units distinct first below =
-    let terms = ones-lits c.terms (λ k d within. unit_coefficient c.terms units (get_or c.terms k d) (All-contains_itself c.terms k d within)) in
+    let terms = ones-lits c.terms (coefficients_one c.terms units) in
     record {
       same = λ i. record { terms = sym terms i; bound = one i };
       apart = AllPairs-map (λ (s t : Weighted). s.lit.var ≢ t.lit.var) (λ (k l : Lit). k.var ≢ l.var) (λ (t : Weighted). t.lit) (λ s t h. h) c.terms (apart_terms c.terms distinct);

@@ -35,10 +35,10 @@ two_plain m n other =
     (or_from (is_same m (negated n)) (is_same n (negated n) || false) (is_same-other_var m (negated n) other) (or_from (is_same n (negated n)) false (is_same-negated n) refl)) refl)
 
 -- a variable that a database has, and that may be named
-abbrev pub IsNamed : (ℕ → Type 0) → Database → ℕ → Type 0
-IsNamed P db v = P v × (v ≤ db.vars)
+abbrev pub MayName : (ℕ → Type 0) → Database → ℕ → Type 0
+MayName P db v = P v × (v ≤ db.vars)
 
-two_in : (P : ℕ → Type 0) (db : Database) (k l : Lit) → IsNamed P db k.var → IsNamed P db l.var → IsClauseIn P db (k ∷ l ∷ [])
+two_in : (P : ℕ → Type 0) (db : Database) (k l : Lit) → MayName P db k.var → MayName P db l.var → IsClauseIn P db (k ∷ l ∷ [])
 two_in P db k l h m = record {
   named = All-cons (λ (l : Lit). P l.var) k (l ∷ []) h.0 (All-cons (λ (l : Lit). P l.var) l [] m.0 (All-nil (λ (l : Lit). P l.var)));
   vars = All-cons (λ (l : Lit). l.var ≤ db.vars) k (l ∷ []) h.1 (All-cons (λ (l : Lit). l.var ≤ db.vars) l [] m.1 (All-nil (λ (l : Lit). l.var ≤ db.vars)));
@@ -69,7 +69,7 @@ pair_short ms d i j before within a falses =
     )
 
 pub pair_claims : (P : ℕ → Type 0) (db : Database) (id : ℕ) (ms : List Lit) (d : Lit) (i j : ℕ) → IsNumbered db → Knows db id (as_constraint (at_most_one ms)) → i < j → j < length ms → (get_or ms i d).var ≢ (get_or ms j d).var
-    → IsNamed P db (get_or ms i d).var → IsNamed P db (get_or ms j d).var → IsClaim P db (by_rup (id ∷ []) (pair_clause (get_or ms i d) (get_or ms j d)))
+    → MayName P db (get_or ms i d).var → MayName P db (get_or ms j d).var → IsClaim P db (by_rup (id ∷ []) (pair_clause (get_or ms i d) (get_or ms j d)))
 pair_claims P db id ms d i j numbered known before within other one two =
     let k : Lit = negated (get_or ms i d) in
     let l : Lit = negated (get_or ms j d) in
@@ -92,7 +92,7 @@ some_short v ls l has a falses =
     let none : term_value a y ≡ 0 = ap (λ (b : Bool). cond b (spare (some_of v ls)) 0) both.1 in
     omega (arith, value-cons a y (map opposite (ones ls)), none, value-opposite a (ones ls), has (term_value a), value_whole a (unit_of l) both.0, has (λ t. t.coef))
 
-pub some_claims : (P : ℕ → Type 0) (db : Database) (id v : ℕ) (ls : List Lit) (l : Lit) → IsNumbered db → Knows db id (reverse_of (some_of v ls)) → Has ls l → l.var ≢ v → IsNamed P db l.var → IsNamed P db v
+pub some_claims : (P : ℕ → Type 0) (db : Database) (id v : ℕ) (ls : List Lit) (l : Lit) → IsNumbered db → Knows db id (reverse_of (some_of v ls)) → Has ls l → l.var ≢ v → MayName P db l.var → MayName P db v
     → IsClaim P db (by_rup (id ∷ []) (negated l ∷ positive_of v ∷ []))
 some_claims P db id v ls l numbered known has other one two =
     short_claims P db id (reverse_of (some_of v ls)) (negated l ∷ positive_of v ∷ []) numbered known (two_plain (negated l) (positive_of v) other) (some_short v ls l has) (two_in P db (negated l) (positive_of v) one two)

@@ -34,7 +34,7 @@ use Rattle.pb_choice.specs.inner.Suits.{HasRoom, IsDerivable}
 pub sum_derives : (t : Treatment) (m : BoundedSum) → IsDerivable t m → (first id : ℕ) (db : Database) → VarsBelow first m.terms → IsReadyFor m first (sum_fresh t m) id db
     → Derives db (sum_steps t m first id db.next) (sum_clauses t m first) (first + sum_fresh t m)
 sum_derives treatment.Pairwise m h first id db below ready = pairwise_derives m h.suits.one h.suits.units h.proper.distinct first id db below ready
-sum_derives treatment.Ladder m h first id db below ready = ladder_derives m h.suits.one h.suits.units h.proper.distinct h.few first id db below ready
+sum_derives treatment.Ladder m h first id db below ready = ladder_derives m h.suits.one h.suits.units h.proper.distinct h.suits.three h.few first id db below ready
 sum_derives treatment.Product m h first id db below ready = product_derives m h.suits.one h.suits.units h.proper.distinct h.few first id db below ready
 sum_derives treatment.Counter m h first id db below ready = rows_derive m h.suits.units h.proper h.few first id db below ready
 sum_derives treatment.Totalizer m h first id db below ready = totalizer_derives m h.suits.units h.proper h.few first id db below ready
@@ -59,7 +59,7 @@ sum_few t m h first id next = absurd h.suits
 pub sum_sayable : (t : Treatment) (m : BoundedSum) → IsDerivable t m → HasRoom t m → (first id next : ℕ) → AreOriginal first m.terms → MayStart first (sum_fresh t m) id next
     → All IsSayable (sum_steps t m first id next)
 sum_sayable treatment.Pairwise m h room first id next original start = pairwise_sayable m.terms first id next original start h.few
-sum_sayable treatment.Ladder m h room first id next original start = ladder_sayable m.terms h.suits.units h.suits.three h.few first id next original start
+sum_sayable treatment.Ladder m h room first id next original start = ladder_sayable m.terms h.suits.three h.few first id next original start
 sum_sayable treatment.Product m h room first id next original start = product_sayable m.terms first id next original start h.few
 sum_sayable treatment.Counter m h room first id next original start = rows_sayable m h.suits.units h.proper h.few first id next original start
 sum_sayable treatment.Totalizer m h room first id next original start = totalizer_sayable m h.suits.units h.proper h.few room first id next original start
@@ -72,7 +72,7 @@ sum_sayable t m h room first id next original start = absurd h.suits
 pub sum_short : (t : Treatment) (m : BoundedSum) → IsDerivable t m → HasRoom t m → (first id next : ℕ) → AreOriginal first m.terms → MayStart first (sum_fresh t m) id next → length m.terms ≤ 2 ^ 21
     → AreShort (length m.terms) (sum_fresh t m) (sum_count t m) (sum_steps t m first id next)
 sum_short treatment.Pairwise m h room first id next original start short = pairwise_short m.terms first id next original start h.few short
-sum_short treatment.Ladder m h room first id next original start short = ladder_short m.terms h.suits.units h.suits.three h.few first id next original start short
+sum_short treatment.Ladder m h room first id next original start short = ladder_short m.terms h.suits.three h.few first id next original start short
 sum_short treatment.Product m h room first id next original start short = product_short m.terms first id next original start h.few short
 sum_short treatment.Counter m h room first id next original start short = rows_short m h.suits.units h.proper h.few first id next original start short
 sum_short treatment.Totalizer m h room first id next original start short = totalizer_short m h.suits.units h.proper h.few room first id next original start short

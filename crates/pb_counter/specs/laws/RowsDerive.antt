@@ -27,8 +27,7 @@ use Rattle.pb_derive.proofs.Running.{runs_append}
 use Rattle.pb_derive.proofs.UnitTerms.{ones-lits}
 use Rattle.pb_family.specs.Families.{VarsBelow}
 use Rattle.pb_family.specs.Fresh.{literal_at}
-use Rattle.pb_family.proofs.UnitCuts.{coefficients_one}
-use Rattle.pb_family.proofs.UnitSums.{more_than_bound}
+use Rattle.pb_family.proofs.UnitSums.{coefficients_one, more_than_bound}
 use Rattle.pb_counter.specs.Counter.{counter_clauses, counter_fresh}
 use Rattle.pb_counter.specs.CounterRows.{stop_clause}
 use Rattle.pb_counter.specs.CounterHalves.{RowsEnd, rows_end, rows_steps, narrow_line, both_line, first_clause, first_steps, first_order_at, total_at, last_steps, further_steps, other_steps, all_steps, counter_row_steps}
