@@ -1,5 +1,5 @@
 -- A ladder's clauses and derivation, one number after another.
-use Rattle.std.proofs.Common.{◌≡◌, ◌<◌, ◌≤◌, ◌+◌, ◌-◌, ◌*◌, ◌^◌, ◌∙◌, ◌++◌, ℕ, zero, suc, List, [], ◌∷◌, map, length, refl, ap, sym, arith, append_assoc, append-nil}
+use Rattle.std.proofs.Common.{◌≡◌, ◌≤◌, ◌+◌, ◌-◌, ◌*◌, ◌∙◌, ◌++◌, ℕ, zero, suc, List, [], ◌∷◌, map, length, ap, sym, arith, append_assoc, append-nil}
 use Rattle.std.specs.List.{range_with_len}
 use Rattle.pb_base.specs.declared.literal.Lit.{Lit}
 use Rattle.pb_base.specs.declared.literal.Term.{Term}
@@ -10,17 +10,15 @@ use Rattle.pb_derive.specs.Claims.{claim_steps}
 use Rattle.pb_derive.specs.Deletions.{deletion_steps}
 use Rattle.pb_derive.specs.Ones.{unit_of}
 use Rattle.pb_derive.specs.Reifications.{reification_steps}
-use Rattle.pb_derive.specs.Rups.{by_rup}
-use Rattle.pb_family.specs.Derivations.{in_turn, meant, propagated}
+use Rattle.pb_family.specs.Derivations.{in_turn, meant}
 use Rattle.pb_family.specs.Fresh.{literal_at, fresh_at}
 use Rattle.pb_family.proofs.Sequence.{reification_pieces, claim_pieces, one_each}
 use Rattle.pb_family.proofs.TermSlices.{literal_count}
-use Rattle.pb_amo.specs.declared.rung.Place.{Place}
 use Rattle.pb_amo.specs.declared.rung_parts.RungPart.{RungPart}
 use Rattle.pb_amo.specs.declared.rung_parts.RungKind.TheVariants.{Meanings, Fronts, Clauses}
 use Rattle.pb_amo.specs.declared.rung_steps.RungSteps.{RungSteps}
 use Rattle.pb_amo.specs.Ladder.{ladder_clauses}
-use Rattle.pb_amo.specs.LadderSteps.{rung, rungs, front_line, front_lines, fronts_at, clause_at, source_at, places, place_claim, ladder_steps}
+use Rattle.pb_amo.specs.LadderSteps.{rung, rungs, front_line, fronts_at, clause_at, places, place_claim, ladder_steps}
 use Rattle.pb_amo.specs.inner.LadderOrder.{place_at}
 use Rattle.pb_amo.specs.inner.RungPieces.{literals_of, rung_count, rung_width, rung_piece}
 use Rattle.pb_amo.specs.laws.LadderPlaces.{ladder_by_places, order_map}
@@ -39,12 +37,6 @@ rung_same ts first (suc j) next y l z some is one other =
     let before : suc j - 1 ≡ j = omega arith in
     λ x. meant next ((ap (λ (k : Lit). k.var) is ∙ ap (λ (n : ℕ). first + (n - 2 - suc j)) size) x)
     (unit_of ((one ∙ ap (λ (n : ℕ). literal_at (lits_of (weights ts)) (n - 1 - suc j)) size) x) ∷ unit_of ((other ∙ (λ i. fresh_at first (size i - 2 - before i))) x) ∷ []) 1
-
--- a clause of two literals, by its place
-pub claim_same : (ts : List Term) (first base next : ℕ) (p : Place) (id : ℕ) (c : List Lit) → id ≡ source_at (length ts) base p → c ≡ clause_at (lits_of (weights ts)) first p
-    → propagated next (id ∷ []) c ≡ claim_steps next (place_claim (lits_of (weights ts)) first base p ∷ [])
-claim_same ts first base next p id c from says =
-    λ x. claim_steps next (by_rup ((from ∙ ap (λ (n : ℕ). source_at n base p) (sym (literal_count ts))) x ∷ []) (says x) ∷ [])
 
 -- ---- the parts
 

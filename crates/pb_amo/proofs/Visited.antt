@@ -1,5 +1,5 @@
 -- The items at places that a test passes, gathered one after another.
-use Rattle.std.proofs.Common.{◌≡◌, ◌≢◌, ◌≤◌, ◌<◌, ◌+◌, ◌*◌, ◌/◌, ◌%◌, ◌&&◌, ◌++◌, ◌∙◌, ℕ, inl, inr, zero, suc, Bool, true, false, not, cond, List, [], ◌∷◌, eqb, length, take, take_all, refl, ap, sym, subst, arith, get_or}
+use Rattle.std.proofs.Common.{◌≡◌, ◌≢◌, ◌≤◌, ◌<◌, ◌+◌, ◌*◌, ◌/◌, ◌%◌, ◌++◌, ◌∙◌, ℕ, inl, inr, zero, suc, Bool, true, false, cond, List, [], ◌∷◌, length, take, take_all, refl, ap, sym, subst, arith, get_or}
 use Rattle.std.proofs.Math.Nat.{mul-le-mul_right, div-add-mod'}
 use Rattle.std.proofs.Math.Seq.{take-nil}
 use Rattle.std.proofs.lemmas.Bool.{eq-eqb, ne_eqb, cases_lt}

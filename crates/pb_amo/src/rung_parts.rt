@@ -5,9 +5,7 @@ ghost use Rattle.pb_family.specs.StepSinks.{HandsFrom};
 ghost use Rattle.pb_amo.specs.LadderSteps.{ladder_steps};
 
 use crate::rung_steps::RungSteps;
-use pb_family::{
-    NumberedClauses, Pieces, SinkResult, StepSink, derive_deletions, derive_parts,
-};
+use pb_family::{NumberedClauses, Pieces, SinkResult, StepSink, derive_deletions, derive_parts};
 use std::alloc::Global;
 
 /// The steps that say the same of one place after another.

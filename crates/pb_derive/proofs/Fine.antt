@@ -1,8 +1,7 @@
 -- Steps that lines can say, each at most so long, and all together.
-use Rattle.std.proofs.Common.{◌≤◌, ◌<◌, ◌+◌, ◌*◌, ◌^◌, ℕ, List, ◌∷◌, ◌++◌, length, map, arith, get_or}
+use Rattle.std.proofs.Common.{◌≤◌, ◌<◌, ◌+◌, ◌*◌, ◌^◌, ℕ, List, ◌∷◌, ◌++◌, length, arith}
 use Rattle.std.specs.Prelude.{All, sum_by}
-use Rattle.std.proofs.lemmas.List.{length-map}
-use Rattle.std.proofs.lemmas.List.Elements.{All-cons, All-append, All-map, All-weaker}
+use Rattle.std.proofs.lemmas.List.Elements.{All-cons, All-append, All-weaker}
 use Rattle.std.proofs.lemmas.List.Sums.{sum_by-cons, sum_by-append, sum_by-le}
 use Rattle.pb_steps.specs.declared.step.Step.{Step}
 use Rattle.pb_steps.specs.Sayable.{IsSayable}
@@ -10,12 +9,10 @@ use Rattle.pb_steps.specs.StepSizes.{step_size}
 use Rattle.pb_derive.specs.Claims.{Claim, claim_steps}
 use Rattle.pb_derive.specs.Deletions.{deletion_steps}
 use Rattle.pb_derive.specs.Reifications.{Reification, reification_steps}
-use Rattle.pb_derive.specs.Justifications.{Justification, by_justification}
 use Rattle.pb_derive.specs.Short.{AreShort}
 use Rattle.pb_derive.proofs.Sayable.{IsSlimReification, reifications_sayable, claims_sayable, deletions_sayable}
 use Rattle.pb_derive.proofs.Short.{lines_sized, line_sized}
-use Rattle.pb_derive.proofs.ShortJustifications.{IsSlimJustification, justifications_sayable, justifications-size, gone_in}
-use Rattle.pb_derive.proofs.Sizes.{closing-size, reifications-size, claims-size, deletions-size, reifications_each, claims_each, deletions_each}
+use Rattle.pb_derive.proofs.Sizes.{reifications-size, claims-size, deletions-size, reifications_each, claims_each, deletions_each}
 
 pub record AreFine (most all : ℕ) (steps : List Step) : Type 0 where
   pub sayable : All IsSayable steps
@@ -72,17 +69,6 @@ module _ (most : ℕ) where
     each = reifications_each most (omega (arith, room)) next ms (All-weaker (λ (m : Reification). length m.sum ≤ n) (λ (m : Reification). 119 + 53 * length m.sum ≤ most) (λ m h. omega (arith, h, room)) ms few);
     all_sized = reifications-size (238 + 106 * n) next ms (All-weaker (λ (m : Reification). length m.sum ≤ n) (λ (m : Reification). 238 + 106 * length m.sum ≤ 238 + 106 * n) (λ m h. omega (arith, h)) ms few);
   }
-
-  pub fine_justifications : (n next : ℕ) (rs : List Justification) → 89 + 14 * n ≤ most → 1 ≤ next → next + length rs < 2 ^ 63 → All (IsSlimJustification n) rs
-      → AreFine most (113 * length rs + 14 * gone_in rs) (claim_steps next (map by_justification rs))
-  fine_justifications n next rs room low high slim =
-      let cs : List Claim = map by_justification rs in
-      let count = length-map rs by_justification in
-      record {
-        sayable = claims_sayable next cs low (omega (arith, high, count)) (justifications_sayable n rs slim);
-        each = claims_each most (omega (arith, room)) next cs (All-map (λ (c : Claim). step_size c.step ≤ most) by_justification rs (λ i d w. let own = slim i d w in omega (arith, closing-size (get_or rs i d), own.two, own.few, room)));
-        all_sized = omega (arith, claims-size next cs, justifications-size n rs slim, count);
-      }
 
   pub fine_deletions : (id n : ℕ) → 44 ≤ most → 1 ≤ id → id + 2 * n < 2 ^ 63 → AreFine most (44 * n) (deletion_steps 2 id n)
   fine_deletions id n room low high = record { sayable = deletions_sayable id n low high; each = deletions_each most room id n; all_sized = omega (arith, deletions-size id n) }

@@ -155,12 +155,3 @@ pub justified_derives : (m : BoundedSum) (first fresh id : ℕ) (db : Database) 
 justified_derives m first fresh id db ms rs ready row count fit names whole justified =
     room_derives first fresh db ms rs (room_of m first fresh id db ready) row count fit names whole
     (λ end later known. justified (Knows end) known (stands_later (λ v. v < first + fresh) db end id (as_constraint m) ready.numbered later ready.stands))
-
--- the same where the sums may not reach their numbers
-pub meant_derives : (m : BoundedSum) (first fresh id : ℕ) (db : Database) (ms : List Reification) (rs : List Justification) → IsReadyFor m first fresh id db → AreInRow first ms → length ms ≡ fresh → All (IsFitReification first) ms
-    → All (λ r. All (λ l. l.var < first + fresh) r.clause) rs → All (IsWhole db.vars) rs
-    → ((K : ℕ → Constraint → Type 0) → AllMeant K db.next ms → K id (as_constraint m) → All (IsJustified K) rs)
-    → Derives db (phases db.next ms (map by_justification rs)) (justification_clauses rs) (first + fresh)
-meant_derives m first fresh id db ms rs ready row count fit names whole justified =
-    fit_derives first fresh db ms rs (room_of m first fresh id db ready) row count fit names whole
-    (λ end later given. justified (Knows end) given (stands_later (λ v. v < first + fresh) db end id (as_constraint m) ready.numbered later ready.stands))

@@ -39,7 +39,6 @@ pub mod ShortJustifications
 pub mod ShortRups
 pub mod Sizes
 pub mod SlimRows
-pub mod SomeFollows
 pub mod Sources
 pub mod Stacked
 pub mod Staged

@@ -238,31 +238,6 @@ follows_pair clause ts us u v ss rs ws xs m left right sum le among light ids =
 pub known_of : {clause : List Lit} {ts : List Weighted} {u : ℕ} {ss : List Constraint} {ws : List ℕ} → Side clause ts u ss ws → Known clause ts u ss ws
 known_of side = record { within = side.within; apart = side.apart; short = side.short }
 
--- two are one
-pub known_both : (clause : List Lit) (ts us : List Weighted) (u v : ℕ) (ss rs : List Constraint) (ws xs : List ℕ) → Known clause ts u ss ws → Known clause us v rs xs → Known clause (ts ++ us) (u + v) (ss ++ rs) (ws ++ xs)
-known_both clause ts us u v ss rs ws xs left right =
-    let coefs : (l : Lit) → coef_of (ts ++ us) l ≡ coef_of ts l + coef_of us l = λ l. sum_by-append {X = Weighted} (λ t. cond (is_same t.lit l) t.coef 0) ts us in
-    let sources : (l : Lit) → coef_in (ss ++ rs) l ≡ coef_in ss l + coef_in rs l = λ l. sum_by-append {X = Constraint} (λ s. coef_of s.terms l) ss rs in
-    record {
-      within = λ l.
-          let Goal : Type 0 = is_among clause l ≡ true ⊎ (Contains (ws ++ xs) l.var ⊎ (coef_in (ss ++ rs) l + coef_of (ts ++ us) (negated l) ≤ coef_in (ss ++ rs) (negated l) + coef_of (ts ++ us) l)) in
-          elim (left.within l) as (λ _. Goal) [
-            | inl here ↦ inl here
-            | inr more ↦ elim more as (λ _. Goal) [
-              | inl gone ↦ inr (inl (Contains-append_left ws xs l.var gone))
-              | inr one ↦ elim (right.within l) as (λ _. Goal) [
-                | inl here ↦ inl here
-                | inr rest ↦ elim rest as (λ _. Goal) [
-                  | inl gone ↦ inr (inl (Contains-append_right ws xs l.var gone))
-                  | inr two ↦ inr (inr (omega (arith, one, two, sources l, sources (negated l), coefs l, coefs (negated l))))
-                ]
-              ]
-            ]
-          ];
-      apart = λ l h gone. elim (Contains-append_cases ws xs l.var gone) [ inl first ↦ left.apart l h first | inr second ↦ right.apart l h second ];
-      short = λ a h. omega (arith, left.short a h, right.short a h, value-append a ts us, sum_by-append {X = Constraint} (λ s. value a s.terms) ss rs, sum_by-append {X = Constraint} (λ s. s.degree) ss rs);
-    }
-
 -- one that reaches more than the bound, so that the sum's own constraint is broken
 pub follows_bound : (clause : List Lit) (ts : List Weighted) (bound u : ℕ) (ss : List Constraint) (ws : List ℕ) → Known clause ts u ss ws → bound < u → bound ≤ weight ts → weight ts < 2 ^ 100
     → weight_in ss ≤ 2 * weight ts → degrees ss ≤ weight ts → (ids : List ℕ) → FollowsFrom (ss ++ record { terms = map opposite ts; degree = weight ts - bound } ∷ []) (justification clause ids ws)

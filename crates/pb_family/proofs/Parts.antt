@@ -1,20 +1,14 @@
 -- Steps that are handed over part by part.
-use Rattle.std.proofs.Common.{◌≡◌, ◌≤◌, ◌<◌, ◌+◌, ◌*◌, ◌∙◌, ◌++◌, ℕ, zero, suc, List, ◌∷◌, length, drop, get_or, refl, sym, ap, subst, arith}
-use Rattle.std.specs.Prelude.{count_by, cond, Result, IsErrAnd}
+use Rattle.std.proofs.Common.{◌≡◌, ◌≤◌, ◌<◌, ◌+◌, ◌*◌, ◌∙◌, ◌++◌, ℕ, List, ◌∷◌, length, drop, get_or, refl, sym, ap, subst, arith}
+use Rattle.std.specs.Prelude.{count_by, Result, IsErrAnd}
 use Rattle.std.proofs.lemmas.List.{drop_more, drop_all}
-use Rattle.std.proofs.lemmas.List.Sums.{sum_by-append}
 use Rattle.pb_steps.specs.declared.step.Step.{Step}
 use Rattle.pb_steps.specs.Steps.{takes_id}
 use Rattle.pb_family.specs.Derivations.{pieces, in_turn, ids_in_turn}
 use Rattle.pb_family.specs.StepSinks.{StepState, TakesSteps, StopsInSteps, HandsSteps}
 use Rattle.pb_family.specs.declared.sink.SinkFault.{SinkFault}
 use Rattle.pb_family.proofs.Deriving.{Deriving, deriving_from, deriving_as, deriving_step, deriving_ends, steps_fault}
-
--- pieces take so many ids
-pub pieces_ids : (piece : ℕ → ℕ → List Step) (width next a n : ℕ) → ((next k : ℕ) → count_by takes_id (piece next k) ≡ width) → count_by takes_id (pieces piece width next a n) ≡ width * n
-pieces_ids piece width next a zero each = omega arith
-pieces_ids piece width next a (suc n) each =
-    omega (arith, sum_by-append (λ (s : Step). cond (takes_id s) 1 0) (piece next a) (pieces piece width (next + width) (a + 1) n), each next a, pieces_ids piece width (next + width) (a + 1) n each)
+use Rattle.pb_family.proofs.Sequence.{pieces_ids}
 
 module _ {P R : Type 0} (count width : P → ℕ) (piece : P → ℕ → ℕ → List Step) (ps : List P) where
   -- of all parts the first k were taken
@@ -50,7 +44,7 @@ module _ {P R : Type 0} (count width : P → ℕ) (piece : P → ℕ → ℕ →
 
     pub turn_next : (after : StepState R) → ((next j : ℕ) → count_by takes_id (piece p next j) ≡ width p) → TakesSteps part now after → InTurn (k + 1) old after
     turn_next after each handed =
-        let counts : now.next + width p * count p ≡ after.next = omega (arith, handed.ids, pieces_ids (piece p) (width p) now.next 0 (count p) each) in
+        let counts : now.next + width p * count p ≡ after.next = omega (arith, handed.ids, pieces_ids (piece p) (width p) each now.next 0 (count p)) in
         record {
           taken = deriving_as (ap rest counts) (deriving_step {left = rest (now.next + width p * count p)} part after steps handed);
           ids = omega (arith, counts, ids);

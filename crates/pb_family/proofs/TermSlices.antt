@@ -1,5 +1,5 @@
 -- Terms as steps have them, and slices of terms.
-use Rattle.std.proofs.Common.{◌≡◌, ◌≤◌, ◌<◌, ◌+◌, ◌-◌, ◌^◌, ℕ, Bool, true, false, if◌then◌else◌, List, [], ◌∷◌, length, length-drop, take, drop, refl, sym, ap, ◌∙◌, arith}
+use Rattle.std.proofs.Common.{◌≡◌, ◌≤◌, ◌<◌, ◌-◌, ◌^◌, ℕ, Bool, true, false, if◌then◌else◌, List, [], ◌∷◌, length, length-drop, take, drop, refl, sym, ap, ◌∙◌, arith}
 use Rattle.std.specs.Prelude.{All, map, slice_index_or}
 use Rattle.std.proofs.lemmas.List.{take-map, drop-map, get_or-map, length-map, take_all}
 use Rattle.std.proofs.lemmas.List.Elements.{All-nil, All-cons}
@@ -32,10 +32,6 @@ weights_from ts k j same =
 
 pub weights_until : (ts : List Term) (k : ℕ) → weights (take k ts) ≡ take k (weights ts)
 weights_until ts k = sym (take-map weighted k ts)
-
--- one term
-pub weights_one : (ts : List Term) (k j : ℕ) → j ≡ k + 1 → weights (take (j - k) (drop k ts)) ≡ take 1 (drop k (weights ts))
-weights_one ts k j next = ap (λ (m : ℕ). weights (take m (drop k ts))) (let e : j - k ≡ 1 = omega (arith, next) in e) ∙ weights_until (drop k ts) 1 ∙ ap (take 1) (sym (drop-map weighted k ts))
 
 pub light_from : (ts : List Term) (k : ℕ) → weight (weights (take (length ts - k) (drop k ts))) ≤ weight (weights ts)
 light_from ts k = omega (arith, ap weight (weights_from ts k k refl), sum_by-take-drop (λ (t : Weighted). t.coef) (weights ts) k)

@@ -14,6 +14,7 @@ use std::alloc::{AllocError, Global};
 /// Adds so many neighbouring ids.
 pub fn push_ids(ids: &mut Vec<u64>, from: u64, count: u64) -> Result<(), AllocError>
     requires fits { from + count < 2 ^ 64 }
+    // On success the ids were appended.
     ensures { IfOk result (λ _. ids.new.items ≡ ids.old.items ++ range_with_len from count) }
 {
     for next in from..from + count {
@@ -35,6 +36,7 @@ fn deletion_step(alloc: Global, id: u64, width: u64) -> Result<Step, AllocError>
 /// Hands over that some ids go.
 pub fn derive_deleted<T: StepSink>(ids: Vec<u64>, sink: &mut T) -> SinkResult
     requires few { (T.state sink.old).next < 2 ^ 62 }
+    // The line that deletes the ids was emitted, or a first part until the sink failed or memory ran out.
     ensures { HandsSteps (Del ids.items ∷ []) result (T.state sink.old) (T.state sink.new) }
 {
     sink.step(&Step::Del(Ids::from_vec(ids)))

@@ -21,6 +21,7 @@ fn line_of(alloc: Global, ops: &[PolOp]) -> Result<Step, AllocError>
 /// Hands over the line of some operations.
 pub fn derive_line<T: StepSink>(alloc: Global, ops: &[PolOp], sink: &mut T) -> SinkResult
     requires few { (T.state sink.old).next < 2 ^ 62 }
+    // The `pol` line of the operations was emitted, or a first part until the sink failed or memory ran out.
     ensures { HandsSteps (Pol ops.now ∷ []) result (T.state sink.old) (T.state sink.new) }
 {
     let step = line_of(alloc, ops)?;
@@ -29,6 +30,7 @@ pub fn derive_line<T: StepSink>(alloc: Global, ops: &[PolOp], sink: &mut T) -> S
 
 /// Multiplies by a number.
 pub fn times(number: u64) -> PolOp
+    // It multiplies by the number.
     ensures { result ≡ Mul (pos number) }
 {
     PolOp::Mul(number as i128)
@@ -36,6 +38,7 @@ pub fn times(number: u64) -> PolOp
 
 /// Divides by a number.
 pub fn over(number: u64) -> PolOp
+    // It divides by the number.
     ensures { result ≡ Div (pos number) }
 {
     PolOp::Div(number as i128)

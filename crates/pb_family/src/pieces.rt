@@ -37,6 +37,7 @@ pub trait Pieces {
 /// Hands over all pieces, in the order of their numbers.
 pub fn derive_pieces<P: Pieces, T: StepSink>(alloc: Global, of: &P, sink: &mut T) -> SinkResult
     requires few { (T.state sink.old).next + P.piece_ids of.now * P.piece_count of.now < 2 ^ 62 }
+    // All pieces were emitted, in the order of their numbers, or the first ones until the sink failed or memory ran out.
     ensures { HandsFrom (λ next. pieces (P.piece of.now) (P.piece_ids of.now) next 0 (P.piece_count of.now)) result (T.state sink.old) (T.state sink.new) }
 {
     for number in 0..of.count() {
@@ -48,7 +49,9 @@ pub fn derive_pieces<P: Pieces, T: StepSink>(alloc: Global, of: &P, sink: &mut T
 /// Hands over parts, each with all its pieces, one behind another.
 pub fn derive_parts<P: Pieces, T: StepSink>(alloc: Global, parts: &[P], sink: &mut T) -> SinkResult
     requires few { (T.state sink.old).next + ids_in_turn P.piece_count P.piece_ids parts.now < 2 ^ 62 }
+    // The pieces of all parts were emitted, part by part, or the first ones until the sink failed or memory ran out.
     ensures hands { HandsFrom (λ next. in_turn P.piece_count P.piece_ids P.piece next parts.now) result (T.state sink.old) (T.state sink.new) }
+    // On success the next id is higher by the ids that all pieces take.
     ensures next { IfOk result (λ _. (T.state sink.new).next ≡ (T.state sink.old).next + ids_in_turn P.piece_count P.piece_ids parts.now) }
 {
     for part in parts {

@@ -1,7 +1,6 @@
 -- The clauses of a ladder are derived.
 use Rattle.std.proofs.Common.{◌≡◌, ◌≤◌, ◌<◌, ◌+◌, ◌*◌, ◌-◌, ◌^◌, ◌∙◌, ◌++◌, ℕ, suc, true, List, [], ◌∷◌, length, take, length-append, length-take, get_or, refl, ap, sym, subst, arith}
-use Rattle.std.specs.Prelude.{All, map, sum_by}
-use Rattle.std.specs.List.{range_with_len}
+use Rattle.std.specs.Prelude.{All, map}
 use Rattle.std.proofs.lemmas.List.{length-map, get_or_append_left, get_or-append_right, get_or-take}
 use Rattle.std.proofs.lemmas.Simd.{map-map}
 use Rattle.std.proofs.lemmas.List.Elements.{All-map}
@@ -30,10 +29,10 @@ use Rattle.pb_family.specs.Fresh.{positive_of, literal_at, fresh_at}
 use Rattle.pb_amo.specs.declared.rung.Place.{Place}
 use Rattle.pb_amo.specs.declared.rung.Place.TheVariants.{Link, NoneAfter, SomeAfter}
 use Rattle.pb_amo.specs.Ladder.{ladder_clauses}
-use Rattle.pb_amo.specs.LadderSteps.{next_bit, behind, rung, rungs, front_line, front_lines, fronts_at, clause_at, places, place_claim, ladder_claims, steps_of, ladder_steps}
+use Rattle.pb_amo.specs.LadderSteps.{next_bit, behind, rung, rungs, front_line, front_lines, fronts_at, places, place_claim, ladder_claims, steps_of, ladder_steps}
 use Rattle.pb_amo.specs.inner.AtMostOne.{at_most_one}
 use Rattle.pb_amo.specs.inner.LadderOrder.{IsPlace}
-use Rattle.pb_amo.specs.laws.LadderFronts.{LadderLeft, ladder_left, front_of, AtMostOne}
+use Rattle.pb_amo.specs.laws.LadderFronts.{LadderLeft, ladder_left}
 use Rattle.pb_amo.specs.laws.LadderPlaces.{each_place, ladder_by_places, count_places}
 use Rattle.pb_amo.specs.laws.PairwiseDerives.{of_lits}
 use Rattle.pb_amo.specs.laws.TwoLiterals.{Has, MayName, pair_claims, some_claims}

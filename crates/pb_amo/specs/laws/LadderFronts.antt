@@ -1,22 +1,19 @@
 -- What the variables of a ladder mean, and that at most one of the literals up to a place and its variable is true, run and are known.
 use Rattle.std.proofs.Common.{◌≡◌, ◌≢◌, ◌≤◌, ◌<◌, ◌+◌, ◌-◌, ◌*◌, ◌^◌, ◌++◌, ◌∙◌, ℕ, zero, suc, List, [], ◌∷◌, length, take, take_all, length-append, length-take, get_or, get_or-take, refl, ap, sym, subst, arith, append_assoc}
-use Rattle.std.specs.Prelude.{All, AllPairs, map, sum_by}
-use Rattle.std.specs.List.{range_with_len}
+use Rattle.std.specs.Prelude.{All, map}
 use Rattle.std.proofs.Math.Seq.{take-suc}
 use Rattle.std.proofs.lemmas.List.Elements.{All-nil, All-cons, All-head, All-tail, All-append, All-map, All-take, All-weaker}
 use Rattle.std.proofs.lemmas.List.FromFn.{length-map-range_with_len, get_or-map-range_with_len}
 use Rattle.std.proofs.lemmas.List.Kept.{AllPairs-cons}
 use Rattle.std.proofs.lemmas.List.Sums.{sum_by-append}
 use Rattle.pb_base.specs.declared.literal.Lit.{Lit}
-use Rattle.pb_base.specs.Literals.{Assignment, negated}
 use Rattle.pb_base.proofs.Pairs.{AllPairs-nil, AllPairs-head, AllPairs-tail, AllPairs-map}
 use Rattle.pb_norm.specs.Addition.{sum_of}
-use Rattle.pb_norm.specs.Constraints.{Weighted, Constraint, AllPositive, weight, value, term_value}
+use Rattle.pb_norm.specs.Constraints.{Weighted, Constraint, AllPositive, term_value}
 use Rattle.pb_norm.specs.Reduction.{opposite}
 use Rattle.pb_norm.proofs.AdditionValues.{value-cons}
 use Rattle.pb_norm.proofs.AdditionSizes.{weight-cons}
 use Rattle.pb_steps.specs.Database.{Database}
-use Rattle.pb_steps.specs.declared.step.Step.{Step}
 use Rattle.pb_steps.specs.declared.step.Step.TheVariants.{Pol}
 use Rattle.pb_derive.specs.Derivations.{as_constraint}
 use Rattle.pb_derive.specs.Forms.{AreApartTerms, IsFormOf}
@@ -26,10 +23,10 @@ use Rattle.pb_derive.specs.Ones.{unit_of, ones}
 use Rattle.pb_derive.specs.Reifications.{Reification, reification_steps, forward_of}
 use Rattle.pb_derive.specs.inner.Meant.{IsReification, NamesNot, AreReifications, IsMeant, AreMeant}
 use Rattle.pb_derive.proofs.ClauseClaims.{ones-apart}
-use Rattle.pb_derive.proofs.Expressions.{known, plus, IsNormal, expression_adds}
+use Rattle.pb_derive.proofs.Expressions.{known, plus, expression_adds}
 use Rattle.pb_derive.proofs.FormOperations.{form_sum}
-use Rattle.pb_derive.proofs.Laters.{known_below, later_knows, later_then}
-use Rattle.pb_derive.proofs.Lines.{AreKnown, Adds, Added, added_as, added_then, MeantFrom, meant_from, LinesRan, lines_ran}
+use Rattle.pb_derive.proofs.Laters.{known_below, later_knows}
+use Rattle.pb_derive.proofs.Lines.{AreKnown, Adds, Added, added_as, added_then, meant_from, lines_ran}
 use Rattle.pb_derive.proofs.Meant.{reifications_ran, meant_all, meant_at}
 use Rattle.pb_derive.proofs.Opposites.{value-opposite, weight-opposite}
 use Rattle.pb_derive.proofs.PinLemmas.{AreApartLits}
@@ -37,7 +34,7 @@ use Rattle.pb_derive.proofs.Rups.{ones-weight}
 use Rattle.pb_derive.proofs.UnitTerms.{ones-all, ones-sum}
 use Rattle.pb_family.specs.Fresh.{positive_of, literal_at, fresh_at}
 use Rattle.pb_family.proofs.Ranges.{range_each}
-use Rattle.pb_amo.specs.LadderSteps.{next_bit, behind, rung, rungs, front_before, front_line, front_lines, fronts_at}
+use Rattle.pb_amo.specs.LadderSteps.{behind, rung, rungs, front_before, front_line, front_lines, fronts_at}
 use Rattle.pb_amo.specs.inner.AtMostOne.{at_most_one}
 use Rattle.pb_amo.specs.laws.TwoLiterals.{some_of}
 

@@ -1,6 +1,6 @@
 -- The lines of a ladder are short, and can be said.
 use Rattle.std.proofs.Common.{◌≡◌, ◌≤◌, ◌<◌, ◌+◌, ◌-◌, ◌*◌, ◌^◌, ◌++◌, ℕ, zero, suc, List, [], ◌∷◌, length, subst, arith}
-use Rattle.std.specs.Prelude.{All, map}
+use Rattle.std.specs.Prelude.{All}
 use Rattle.std.specs.List.{range_with_len}
 use Rattle.std.proofs.lemmas.List.{length-map}
 use Rattle.std.proofs.lemmas.List.Elements.{All-nil, All-cons, All-map, All-from_recursion, recursion_from_All}
@@ -32,7 +32,7 @@ use Rattle.pb_family.proofs.Limits.{variables_of}
 use Rattle.pb_family.proofs.Ranges.{range_each}
 use Rattle.pb_amo.specs.declared.rung.Place.{Place}
 use Rattle.pb_amo.specs.declared.rung.Place.TheVariants.{Link, NoneAfter, SomeAfter}
-use Rattle.pb_amo.specs.LadderSteps.{behind, rung, rungs, front_before, front_line, front_lines, fronts_at, clause_at, source_at, places, place_claim, ladder_claims, steps_of, ladder_steps}
+use Rattle.pb_amo.specs.LadderSteps.{behind, rung, rungs, front_before, front_line, front_lines, fronts_at, places, place_claim, ladder_claims, steps_of, ladder_steps}
 use Rattle.pb_amo.specs.inner.LadderOrder.{IsPlace}
 use Rattle.pb_amo.specs.laws.LadderPlaces.{each_place, count_places}
 

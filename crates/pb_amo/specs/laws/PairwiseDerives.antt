@@ -1,34 +1,26 @@
 -- The clauses for each two literals are derived.
-use Rattle.std.proofs.Common.{◌≡◌, ◌≢◌, ◌<◌, ◌≤◌, ◌+◌, ◌*◌, ◌-◌, ◌||◌, ℕ, true, false, List, [], ◌∷◌, length, refl, sym, subst, arith, get_or}
-use Rattle.std.specs.Prelude.{map, All, count_by}
-use Rattle.std.proofs.lemmas.Bool.{or_from}
+use Rattle.std.proofs.Common.{◌≡◌, ◌≢◌, ◌<◌, ◌≤◌, ◌+◌, ◌*◌, ◌-◌, ℕ, true, List, [], ◌∷◌, length, sym, subst, arith, get_or}
+use Rattle.std.specs.Prelude.{All, count_by}
 use Rattle.std.proofs.lemmas.List.{length-map}
-use Rattle.std.proofs.lemmas.List.Elements.{All-cons, All-nil, All-head, All-tail, All-map, All-contains_itself}
+use Rattle.std.proofs.lemmas.List.Elements.{All-map}
 use Rattle.pb_base.specs.declared.literal.Lit.{Lit}
-use Rattle.pb_base.specs.Literals.{Assignment, negated, lit_value, is_same}
-use Rattle.pb_base.proofs.LiteralLemmas.{is_same-negated, is_same-other_var}
 use Rattle.pb_base.proofs.Pairs.{AllPairs-map}
 use Rattle.pb_norm.specs.BoundedSums.{BoundedSum, IsOverDistinct}
-use Rattle.pb_norm.specs.ClauseForm.{is_tautology}
-use Rattle.pb_norm.specs.Constraints.{Weighted, weight, value, term_value}
-use Rattle.pb_norm.specs.Reduction.{lits_of, all_weigh, opposite}
+use Rattle.pb_norm.specs.Constraints.{Weighted}
+use Rattle.pb_norm.specs.Reduction.{lits_of, all_weigh}
 use Rattle.pb_norm.proofs.Proper.{apart as apart_terms}
 use Rattle.pb_steps.specs.Database.{Database}
 use Rattle.pb_steps.specs.Steps.{takes_id}
 use Rattle.pb_steps.specs.declared.step.Step.{Step}
-use Rattle.pb_derive.specs.Derivations.{as_constraint, IsReadyFor, Derives}
-use Rattle.pb_derive.specs.Ones.{unit_of, ones}
+use Rattle.pb_derive.specs.Derivations.{IsReadyFor, Derives}
 use Rattle.pb_derive.specs.Rups.{by_rup}
-use Rattle.pb_derive.specs.inner.Follows.{AllFalse}
 use Rattle.pb_derive.specs.inner.Ran.{IsClaim, RanSwept}
 use Rattle.pb_derive.proofs.FollowedBy.{swept_counted}
 use Rattle.pb_derive.proofs.JustificationClauses.{rup_clauses}
-use Rattle.pb_derive.proofs.Opposites.{value-opposite, two_places-le, value_whole}
 use Rattle.pb_derive.proofs.Phases.{length-claims, swept_derives}
 use Rattle.pb_derive.proofs.PinLemmas.{AreApartLits}
 use Rattle.pb_derive.proofs.Running.{claims_ran}
-use Rattle.pb_derive.proofs.ShortRups.{short_claims}
-use Rattle.pb_derive.proofs.UnitTerms.{ones-sum, ones-lits}
+use Rattle.pb_derive.proofs.UnitTerms.{ones-lits}
 use Rattle.pb_family.specs.Families.{VarsBelow}
 use Rattle.pb_family.proofs.UnitSums.{coefficients_one}
 use Rattle.pb_amo.specs.inner.AtMostOne.{at_most_one}

@@ -1,27 +1,23 @@
 -- The lines of a grid's side are derived.
-use Rattle.std.proofs.Common.{◌≡◌, ◌≢◌, ◌≤◌, ◌<◌, ◌+◌, ◌*◌, ◌^◌, ◌&&◌, ◌++◌, ℕ, Bool, true, not, List, [], ◌∷◌, length, refl, ap, sym, ◌∙◌, subst, arith, eqb, inl, inr, get_or}
-use Rattle.std.specs.Prelude.{All, Contains, map, sum_by, count_by}
+use Rattle.std.proofs.Common.{◌≡◌, ◌≢◌, ◌≤◌, ◌<◌, ◌+◌, ◌*◌, ◌^◌, ◌++◌, ℕ, Bool, true, List, [], ◌∷◌, length, refl, subst, arith}
+use Rattle.std.specs.Prelude.{All, map, count_by}
 use Rattle.std.specs.List.{range_with_len}
-use Rattle.std.proofs.Math.Bool.{and-true, and-false}
-use Rattle.std.proofs.lemmas.Bool.{eq-eqb, ne_eqb, and_parts, cases_order, not-true, true≢false}
-use Rattle.std.proofs.lemmas.List.{get_or_default}
+use Rattle.std.proofs.lemmas.Bool.{eq-eqb}
 use Rattle.pb_norm.specs.Reduction.{opposite}
 use Rattle.std.proofs.lemmas.List.Elements.{All-nil, All-cons, All-map, All-weaker}
 use Rattle.pb_base.specs.declared.literal.Lit.{Lit}
-use Rattle.pb_base.specs.Literals.{negated}
 use Rattle.pb_norm.specs.Constraints.{Weighted, Constraint, weight}
-use Rattle.pb_norm.specs.BoundedSums.{vars_of}
 use Rattle.pb_steps.specs.Database.{Database}
 use Rattle.pb_steps.specs.declared.step.Step.{Step}
 use Rattle.pb_derive.specs.Derivations.{as_constraint, IsReadyFor}
 use Rattle.pb_derive.specs.Deletions.{deletion_steps}
 use Rattle.pb_steps.specs.Steps.{takes_id}
 use Rattle.pb_derive.specs.Later.{IsNumbered, IsUnnamed, Knows}
-use Rattle.pb_derive.specs.Reifications.{Reification, forward_of, reverse_of}
+use Rattle.pb_derive.specs.Reifications.{forward_of}
 use Rattle.pb_derive.specs.Ones.{unit_of, ones}
 use Rattle.pb_derive.specs.inner.Ran.{RanSwept, IsClaim}
 use Rattle.pb_derive.specs.inner.Meant.{IsMeant}
-use Rattle.pb_derive.specs.inner.Follows.{FollowsFrom, AllKnown}
+use Rattle.pb_derive.specs.inner.Follows.{AllKnown}
 use Rattle.pb_derive.proofs.ClauseClaims.{ones-apart}
 use Rattle.pb_derive.proofs.FollowedBy.{swept_counted, later_wider}
 use Rattle.pb_derive.proofs.InRow.{IsFitReification}
@@ -30,7 +26,7 @@ use Rattle.pb_derive.proofs.PinLemmas.{AreApartLits}
 use Rattle.pb_derive.proofs.Rups.{ones-weight}
 use Rattle.pb_derive.proofs.Scoped.{Scoped, scoped}
 use Rattle.pb_derive.proofs.Summed.{Summed, summed}
-use Rattle.pb_derive.proofs.UnitTerms.{ones-all, ones-sum, vars-ones}
+use Rattle.pb_derive.proofs.UnitTerms.{ones-all, ones-sum}
 use Rattle.pb_family.specs.Fresh.{positive_of, literal_at, fresh_at}
 use Rattle.pb_family.proofs.Ranges.{range_each}
 use Rattle.pb_amo.specs.laws.GridCases.{HoldsWithin}

@@ -1,13 +1,13 @@
 -- The lines of a grid's derivation are few, within their limits, and short.
-use Rattle.std.proofs.Common.{◌≡◌, ◌≤◌, ◌<◌, ◌+◌, ◌*◌, ◌/◌, ◌%◌, ◌^◌, ℕ, Bool, true, zero, suc, List, [], ◌∷◌, ◌++◌, length, length-append, refl, ap, subst, arith}
+use Rattle.std.proofs.Common.{◌≡◌, ◌≤◌, ◌<◌, ◌+◌, ◌*◌, ◌/◌, ◌%◌, ◌^◌, ℕ, Bool, true, List, [], ◌∷◌, ◌++◌, length, length-append, refl, ap, subst, arith}
 use Rattle.std.specs.Prelude.{All, map, sum_by, count_by}
-use Rattle.std.specs.List.{range_with_len, flat_map}
+use Rattle.std.specs.List.{range_with_len}
 use Rattle.std.proofs.Math.Nat.{mul-le-mul_right}
 use Rattle.std.proofs.lemmas.Nat.{mod_below}
 use Rattle.std.proofs.lemmas.List.{length-map}
 use Rattle.std.proofs.lemmas.List.FromFn.{length-map-range_with_len}
 use Rattle.std.proofs.lemmas.List.Elements.{All-nil, All-cons, All-map, All-weaker, All-from_recursion, recursion_from_All}
-use Rattle.std.proofs.lemmas.List.Sums.{sum_by-cons, count_by-le-length}
+use Rattle.std.proofs.lemmas.List.Sums.{count_by-le-length}
 use Rattle.pb_base.specs.declared.literal.Lit.{Lit}
 use Rattle.pb_base.specs.Literals.{negated}
 use Rattle.pb_norm.specs.Constraints.{Weighted}
@@ -43,7 +43,7 @@ use Rattle.pb_amo.specs.Passing.{passing, in_line}
 use Rattle.pb_amo.specs.Product.{rows, columns, line, fresh_within, count_within, product_fresh, product_count}
 use Rattle.pb_amo.specs.ProductSteps.{line_reification, line_reifications, line_claim, line_sum, side_steps, row_of, column_of, grid_reifications, cell_claims, cells_claims, cells_steps, steps_within, product_steps}
 use Rattle.pb_amo.specs.laws.GridCounts.{count_linear}
-use Rattle.pb_amo.specs.laws.GridSides.{columns_positive, rows_positive, rows_are, row_within, sides_fit}
+use Rattle.pb_amo.specs.laws.GridSides.{columns_positive, rows_positive, row_within, sides_fit}
 use Rattle.pb_amo.specs.laws.LineLaws.{length-line, lines_each}
 use Rattle.pb_amo.specs.laws.PairwiseLaws.{pairs_count}
 use Rattle.pb_amo.specs.laws.PairwiseShort.{pairs_fine}
@@ -62,8 +62,8 @@ cells_ids ms first r q base id =
       arith,
       cells_count ms first r q base,
       claims_ids id (cells_claims ms first r q base) (flat_each Takes (cell_claims ms first r q base) 0 (length ms) (λ e above to.
-      All-cons Takes (line_claim (row_of q) ms first base e) (line_claim (column_of q) ms (first + r) (base + 2 * r) e ∷ []) refl
-      (All-cons Takes (line_claim (column_of q) ms (first + r) (base + 2 * r) e) [] refl (All-nil Takes)))),
+          All-cons Takes (line_claim (row_of q) ms first base e) (line_claim (column_of q) ms (first + r) (base + 2 * r) e ∷ []) refl
+          (All-cons Takes (line_claim (column_of q) ms (first + r) (base + 2 * r) e) [] refl (All-nil Takes)))),
     )
 
 pub reifications_count : (ms : List Lit) (first r q : ℕ) → length (grid_reifications ms first r q) ≡ r + q
@@ -196,9 +196,10 @@ module _ (N : ℕ) (ms : List Lit) (vars : All (λ l. IsVariable l.var) ms) (wit
   claim_fine : (side : ℕ → ℕ) (from base e : ℕ) → e < length ms → IsVariable (from + side e) → IsId (base + 2 * side e + 1) → IsFineClaim (line_claim side ms from base e)
   claim_fine side from base e inside line is =
       let clause : List Lit = negated (literal_at ms e) ∷ fresh_at from (side e) ∷ [] in
-      let ids : List ℕ = (base + 2 * side e + 1) ∷ [] in
-      (rup_sayable ids clause (All-cons IsId (base + 2 * side e + 1) [] is (All-nil IsId)) (All-from_recursion (λ (l : Lit). IsVariable l.var) clause (vars e (positive_of 0) inside, (line, tt))),
-      rup-size ids clause)
+      let ids : List ℕ = (base + 2 * side e + 1) ∷ [] in (
+        rup_sayable ids clause (All-cons IsId (base + 2 * side e + 1) [] is (All-nil IsId)) (All-from_recursion (λ (l : Lit). IsVariable l.var) clause (vars e (positive_of 0) inside, (line, tt))),
+        rup-size ids clause,
+      )
 
 -- the same of a line of fresh variables
 line_fine : (N more : ℕ) → HoldsWithin (Fine N) more → (first w : ℕ) → 1 ≤ first → first + w ≤ 2 ^ 31 → w ≤ N → w < 2 ^ 31 → (inner id next : ℕ) → 1 ≤ inner → inner + fresh_within more w ≤ 2 ^ 31 → IsId id → 1 ≤ next →

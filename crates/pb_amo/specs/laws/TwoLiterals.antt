@@ -1,6 +1,6 @@
 -- Clauses of two literals that follow by propagation from one constraint.
 use Rattle.std.proofs.Common.{◌≡◌, ◌≢◌, ◌<◌, ◌≤◌, ◌-◌, ◌||◌, ℕ, Bool, false, cond, List, [], ◌∷◌, length, refl, ap, sym, arith, get_or}
-use Rattle.std.specs.Prelude.{All, map, sum_by}
+use Rattle.std.specs.Prelude.{map, sum_by}
 use Rattle.std.proofs.lemmas.Bool.{or_from}
 use Rattle.std.proofs.lemmas.List.Elements.{All-cons, All-nil, All-head, All-tail}
 use Rattle.pb_base.specs.declared.literal.Lit.{Lit}

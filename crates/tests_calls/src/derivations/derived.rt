@@ -57,8 +57,8 @@ fn report_of(alloc: Global, kind: Kind, opb: &str) -> Option<String> {
 const CASES: &[(Kind, &str, &str)] = &[
     (Kind::Pairs, THREE, "9: 0 0 3 0"),
     (Kind::Pairs, SIX, "33: 0 0 15 0"),
-    (Kind::Ladder, THREE, "19: 2 2 0 0"),
-    (Kind::Ladder, SIX, "46: 5 5 0 0"),
+    (Kind::Ladder, THREE, "21: 2 2 0 0"),
+    (Kind::Ladder, SIX, "51: 5 5 0 0"),
     (Kind::Grid, SIX, "54: 7 6 0 0"),
     (Kind::Counter, FOUR, "67: 5 5 0 0"),
     (Kind::Totalizer, FOUR, "52: 7 9 0 0"),

@@ -1,4 +1,4 @@
-use Rattle.std.proofs.Common.{◌-◌, length, sym, arith}
+use Rattle.std.proofs.Common.{◌-◌, length, sym}
 use Rattle.pb_derive.specs.Deletions.{deletion_steps}
 use Rattle.pb_family.proofs.Deriving.{deriving_from, deriving_step, steps_fault, steps_last}
 use Rattle.pb_amo.proofs.LadderHanding.{parts_steps, ladder_in_parts}

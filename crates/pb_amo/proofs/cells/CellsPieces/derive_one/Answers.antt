@@ -1,5 +1,4 @@
-use Rattle.std.proofs.Common.{◌≡◌, ◌+◌, ◌*◌, ◌/◌, ◌%◌, ℕ, List, [], ◌∷◌, sym, arith}
-use Rattle.pb_steps.specs.declared.step.Step.{Step}
+use Rattle.std.proofs.Common.{◌+◌, ◌*◌, [], ◌∷◌, sym}
 use Rattle.pb_derive.specs.Claims.{Claim, claim_steps}
 use Rattle.pb_family.proofs.Deriving.{deriving_as, deriving_starts, deriving_step, steps_fault, steps_last}
 use Rattle.pb_amo.specs.ProductSteps.{line_claim, row_of, column_of}

@@ -1,5 +1,3 @@
-use Rattle.std.proofs.Common.{List}
-use Rattle.pb_norm.specs.Constraints.{Weighted}
 use Rattle.pb_family.proofs.Deriving.{steps_same}
 use Rattle.pb_amo.specs.LadderSteps.{ladder_steps}
 use Rattle.pb_amo.proofs.ladder.LadderDeriveImpl.derive.Goals as goal
