@@ -20,6 +20,7 @@ pub mod LoadedRuns
 pub mod MadeFiles
 pub mod ModelCosts
 pub mod Pieces
+pub mod PlainClauses
 pub mod Sends
 pub mod ProblemSteps
 pub mod ProductSizes

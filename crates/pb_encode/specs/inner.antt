@@ -1,7 +1,9 @@
 pub mod Hints
 pub mod OneProof
 pub mod Faults
+pub mod Found
 pub mod GroupPlans
+pub mod Plain
 pub mod Sending
 pub mod SendingTexts
 pub mod Streams

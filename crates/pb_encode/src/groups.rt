@@ -1,9 +1,12 @@
 //! The groups of a problem's constraints, one by one: each constraint of a product, and then each statement.
-ghost use Rattle.std.specs.Prelude.{◌≡◌, ◌^◌, [], ◌∷◌, IfOk, IfSome, IsNone};
+ghost use Rattle.std.specs.Prelude.{◌≡◌, ◌^◌, [], ◌∷◌, IfOk, IfSome, IsNone, OnErr};
 ghost use Rattle.pb_base.specs.Problems.{IsWithinLimits, StaysBelow};
+ghost use Rattle.pb_base.specs.declared.problem.Raw.{Raw as RawOf};
 ghost use Rattle.pb_encode.specs.Groups.{group_of, groups_of};
+ghost use Rattle.pb_encode.specs.inner.Found.{found_group};
 
-use pb_base::{Lits, NoMemory, Problem, Raw, Relation, StatementsLeft};
+use crate::plain::{PlainClause, is_plain};
+use pb_base::{Lit, Lits, NoMemory, Problem, Raw, Relation, StatementsLeft};
 use pb_norm::{Half, Linear, normalize, product_constraint, product_variable};
 use std::alloc::Global;
 use std::marker::Model;
@@ -26,6 +29,33 @@ impl Drop for Group {
     }
 }
 
+/// A group as it is found on a walk that looks for clauses.
+pub enum Found {
+    /// A constraint that plainly is a clause.
+    Clause(PlainClause),
+    Other(Group),
+}
+
+// Written out, as that of a group is.
+impl Drop for Found {
+    fn drop(self) {
+        match self {
+            Found::Clause(_) => {}
+            Found::Other(_) => {}
+        }
+    }
+}
+
+impl Found {
+    // The list of a clause.
+    fn into_list(self) -> Option<Vec<Lit>> {
+        match self {
+            Found::Clause(clause) => Some(clause.lits.into_vec()),
+            Found::Other(_) => None,
+        }
+    }
+}
+
 // The group of a statement.
 fn group_of(alloc: Global, statement: &Raw) -> Result<Group, NoMemory>
     requires { StaysBelow (2 ^ 126) statement.now }
@@ -42,6 +72,26 @@ fn group_of(alloc: Global, statement: &Raw) -> Result<Group, NoMemory>
     }
 }
 
+// The next of some statements, written over another one.
+fn read_next(
+    alloc: Global,
+    statements: &mut StatementsLeft<'_>,
+    last: Option<Raw>,
+) -> Result<Option<Raw>, NoMemory>
+    ensures some { IfOk result (λ next. IfSome next (λ s. statements.old ≡ s ∷ statements.new)) }
+    ensures none { IfOk result (λ next. IsNone next → (statements.old ≡ []) × (statements.new ≡ [])) }
+    ensures err { OnErr result ((s : RawOf) × (statements.old ≡ s ∷ statements.new)) }
+{
+    let mut statement = match last {
+        Some(last) => last,
+        None => Raw::empty(alloc),
+    };
+    if !statements.next_into(&mut statement)? {
+        return Ok(None);
+    }
+    Ok(Some(statement))
+}
+
 /// The groups that are still to come, of which none is kept.
 #[derive(Drop)]
 pub struct Groups<'a> {
@@ -51,6 +101,8 @@ pub struct Groups<'a> {
     statements: StatementsLeft<'a>,
     // The statement that was read last, whose room serves the next one.
     last: Option<Raw>,
+    // The list of the clause that was found last.
+    room: Option<Vec<Lit>>,
 }
 
 impl<'a> Model for Groups<'a> {
@@ -77,6 +129,7 @@ impl<'a> Groups<'a> {
             place: 0,
             statements: problem.statements.iter(),
             last: None,
+            room: None,
         }
     }
 
@@ -97,15 +150,50 @@ impl<'a> Groups<'a> {
             }
             return Ok(Some(Group::Alone(constraint)));
         }
-        let mut statement = match self.last.take() {
-            Some(last) => last,
-            None => Raw::empty(alloc),
-        };
-        if !self.statements.next_into(&mut statement)? {
+        let Some(statement) = read_next(alloc, &mut self.statements, self.last.take())? else {
             return Ok(None);
-        }
+        };
         let group = group_of(alloc, &statement)?;
         self.last = Some(statement);
         Ok(Some(group))
+    }
+
+    /// The next group, if there is one, told apart where it plainly is a clause.
+    pub fn next_found(&mut self, alloc: Global) -> Result<Option<Found>, NoMemory>
+        ensures some { IfOk result (λ next. IfSome next (λ found. self.old ≡ found_group found ∷ self.new)) }
+        ensures none { IfOk result (λ next. IsNone next → self.old ≡ []) }
+    {
+        if !self.products.is_empty() {
+            return match self.next(alloc)? {
+                Some(group) => Ok(Some(Found::Other(group))),
+                None => Ok(None),
+            };
+        }
+        let Some(statement) = read_next(alloc, &mut self.statements, self.last.take())? else {
+            return Ok(None);
+        };
+        let mut lits = match self.room.take() {
+            Some(lits) => lits,
+            None => Vec::new(alloc),
+        };
+        if is_plain(&statement, &mut lits) {
+            self.last = Some(statement);
+            return Ok(Some(Found::Clause(PlainClause {
+                lits: Lits::from_vec(lits),
+            })));
+        }
+        self.room = Some(lits);
+        let group = group_of(alloc, &statement)?;
+        self.last = Some(statement);
+        Ok(Some(Found::Other(group)))
+    }
+
+    /// Takes the list of a clause back, so that it serves the next one.
+    pub fn take_back(&mut self, found: Found)
+        ensures { self.new ≡ self.old }
+    {
+        if let Some(list) = found.into_list() {
+            self.room = Some(list);
+        }
     }
 }

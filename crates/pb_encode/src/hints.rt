@@ -144,6 +144,15 @@ impl Hints {
         Ok(())
     }
 
+    /// Goes over the next group, of which nothing is told.
+    pub fn pass(&mut self)
+        requires few { self.old.noted < 2 ^ 63 }
+        ensures next { self.new.noted ≡ self.old.noted + 1 }
+        ensures same { self.new.list ≡ self.old.list }
+    {
+        self.noted += 1;
+    }
+
     /// All that were noted, in order.
     pub fn as_slice(&self) -> &[Hint]
         ensures { result.now ≡ self.now.list.items }

@@ -15,6 +15,7 @@ mod hints;
 mod measuring;
 mod models;
 mod objective;
+mod plain;
 mod position;
 mod streaming;
 mod summary;

@@ -7,13 +7,14 @@ ghost use Rattle.pb_encode.specs.Groups.{groups_of};
 ghost use Rattle.pb_encode.specs.Summaries.{summary_of, IsEncodable, IsOver};
 ghost use Rattle.pb_encode.specs.Tables.{table_terms};
 ghost use Rattle.pb_encode.specs.declared.groups.Group.{Group};
+ghost use Rattle.pb_encode.specs.inner.Found.{found_group};
 ghost use Rattle.pb_encode.specs.inner.Hints.{AreHintsOf, IsBlank, StayHints};
 ghost use Rattle.pb_encode.specs.inner.GroupPlans.{IsLightGroup};
 ghost use Rattle.pb_encode.specs.inner.Tallies.{Counts, IsTally};
 
 use crate::fault::MeasureFault;
 use crate::group_plan::plan_group;
-use crate::groups::{Group, Groups};
+use crate::groups::{Found, Group, Groups};
 use crate::hints::Hints;
 use crate::summary::Summary;
 use crate::table::table_of;
@@ -43,6 +44,30 @@ fn count_group(
     Ok(())
 }
 
+// Counts the constraints of a group as it was found, and notes what is to be told of it.
+fn count_found(
+    alloc: Global,
+    found: &Found,
+    options: &Options,
+    tally: &mut Tally,
+    hints: &mut Hints,
+) -> Result<(), NoMemory>
+    requires light { IsLightGroup (found_group found.now) }
+    requires few { hints.old.noted < 2 ^ 63 }
+    ensures counts { OnOk result (Counts options.now tally.old tally.new (found_group found.now ∷ [])) }
+    ensures next { OnOk result (hints.new.noted ≡ hints.old.noted + 1) }
+    ensures told { (gs rest : List Group) → drop hints.old.noted gs ≡ found_group found.now ∷ rest → OnOk result (StayHints options.now gs hints.old hints.new) }
+{
+    match found {
+        Found::Clause(_) => {
+            tally.add_clause();
+            hints.pass();
+            Ok(())
+        }
+        Found::Other(group) => count_group(alloc, group, options, tally, hints),
+    }
+}
+
 // Counts all constraints of a problem, and notes what is to be told of its groups.
 fn tally_of(
     alloc: Global,
@@ -57,8 +82,9 @@ fn tally_of(
 {
     let mut tally = Tally::new();
     let mut groups = Groups::of(problem);
-    while let Some(group) = groups.next(alloc)? {
-        count_group(alloc, &group, options, &mut tally, hints)?;
+    while let Some(found) = groups.next_found(alloc)? {
+        count_found(alloc, &found, options, &mut tally, hints)?;
+        groups.take_back(found);
     }
     Ok(tally)
 }

@@ -1,16 +1,17 @@
 //! The clauses of a problem, handed to a sink.
-ghost use Rattle.std.specs.Prelude.{◌≡◌, ◌≤◌, ◌<◌, ◌+◌, ◌^◌, IfOk, IfSome};
+ghost use Rattle.std.specs.Prelude.{◌≡◌, ◌≤◌, ◌<◌, ◌+◌, ◌^◌, [], ◌∷◌, IfOk, IfSome};
 ghost use Rattle.pb_family.specs.Handing.{HandsIfMemory};
 ghost use Rattle.pb_encode.specs.Clauses.{loaded_clauses, table_first};
 ghost use Rattle.pb_encode.specs.Groups.{group_clauses, group_fresh};
+ghost use Rattle.pb_encode.specs.inner.Found.{found_group};
 ghost use Rattle.pb_encode.specs.inner.Hints.{IsToldOf};
 ghost use Rattle.pb_encode.specs.inner.GroupPlans.{IsSound};
 
 use crate::encodable::Encodable;
 use crate::group_plan::plan_group;
-use crate::groups::{Group, Groups};
+use crate::groups::{Found, Group, Groups};
 use crate::hints::{HintsLeft, Tells};
-use pb_base::Options;
+use pb_base::{Lit, Options};
 use pb_family::{ClauseSink, SinkResult};
 use std::alloc::Global;
 
@@ -34,6 +35,37 @@ fn stream_group<S: ClauseSink>(
     plan.emit(alloc, first, sink)
 }
 
+// Hands over one clause, and gives the number again.
+fn stream_clause<S: ClauseSink>(clause: &[Lit], first: u32, sink: &mut S) -> SinkResult<u32>
+    ensures next { IfOk result (λ next. next ≡ first) }
+    ensures hands { HandsIfMemory (clause.now ∷ []) result (S.state sink.old) (S.state sink.new) }
+{
+    sink.clause(clause)?;
+    Ok(first)
+}
+
+// Hands over the clauses of a group as it was found, and gives the first number after its fresh variables.
+fn stream_found<S: ClauseSink>(
+    alloc: Global,
+    found: &Found,
+    options: &Options,
+    told: Option<&Tells>,
+    first: u32,
+    sink: &mut S,
+) -> SinkResult<u32>
+    requires told { IfSome told (λ tells. IsToldOf options.now (found_group found.now) tells.now) }
+    requires sound { IsSound first (found_group found.now) }
+    requires low { 1 ≤ first }
+    requires fits { first + group_fresh options.now (found_group found.now) ≤ 2 ^ 31 }
+    ensures next { IfOk result (λ next. next ≡ first + group_fresh options.now (found_group found.now)) }
+    ensures hands { HandsIfMemory (group_clauses options.now (found_group found.now) first) result (S.state sink.old) (S.state sink.new) }
+{
+    match found {
+        Found::Clause(clause) => stream_clause(clause.lits.as_slice(), first, sink),
+        Found::Other(group) => stream_group(alloc, group, options, told, first, sink),
+    }
+}
+
 /// Hands over the clauses of all constraints, of which nothing is kept but what one statement needs, and gives the first number after
 /// their fresh variables.
 pub fn stream_loaded<S: ClauseSink>(
@@ -47,9 +79,10 @@ pub fn stream_loaded<S: ClauseSink>(
     let mut next = input.problem.originals() + 1;
     let mut hints = HintsLeft::of(input.hints);
     let mut groups = Groups::of(input.problem);
-    while let Some(group) = groups.next(alloc)? {
+    while let Some(found) = groups.next_found(alloc)? {
         let told = hints.next();
-        next = stream_group(alloc, &group, input.options, told, next, sink)?;
+        next = stream_found(alloc, &found, input.options, told, next, sink)?;
+        groups.take_back(found);
     }
     Ok(next)
 }

@@ -1,5 +1,6 @@
 //! Counts of what is encoded.
-ghost use Rattle.std.specs.Prelude.{◌≡◌, ◌<◌, ◌^◌, [], ◌∷◌, List};
+ghost use Rattle.std.specs.Prelude.{◌≡◌, ◌<◌, ◌≤◌, ◌^◌, [], ◌∷◌, List, length};
+ghost use Rattle.pb_base.specs.declared.literal.Lit.{Lit as LitOf};
 ghost use Rattle.pb_norm.specs.Constraints.{Constraint};
 ghost use Rattle.pb_base.specs.declared.options.Options.{Options};
 ghost use Rattle.pb_choice.specs.EqualPlans.{HasPartsOf, IsEqualPlan};
@@ -7,6 +8,7 @@ ghost use Rattle.pb_encode.specs.declared.groups.Group.{Group};
 ghost use Rattle.pb_encode.specs.Groups.{size_total};
 ghost use Rattle.pb_encode.specs.declared.groups.Group.TheVariants.{Alone, Paired};
 ghost use Rattle.pb_encode.specs.inner.GroupPlans.{IsGroupPlan};
+ghost use Rattle.pb_encode.specs.inner.Plain.{ones_of};
 ghost use Rattle.pb_encode.specs.Summaries.{place_of, treated, treatments_of};
 
 use crate::group_plan::GroupPlan;
@@ -52,6 +54,15 @@ impl Tally {
         self.fresh = self.fresh.saturating_add(counts.fresh);
         self.clauses = self.clauses.saturating_add(counts.clauses);
         let place = place_of(plan.treatment());
+        self.treated[place] = self.treated[place].saturating_add(1);
+    }
+
+    /// Counts one more constraint, which is a clause.
+    pub fn add_clause(&mut self)
+        ensures { (o : Options) (ls : List LitOf) → 2 ≤ length ls → Counts o self.old self.new (Alone (ones_of ls) ∷ []) }
+    {
+        self.clauses = self.clauses.saturating_add(1);
+        let place = place_of(Treatment::Clause);
         self.treated[place] = self.treated[place].saturating_add(1);
     }
 

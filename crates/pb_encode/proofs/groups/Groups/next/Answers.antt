@@ -26,15 +26,15 @@ returns-in-Some-clause-some c =
           ∙ ap (λ (gs : List Group). Alone one ∷ gs) (sym w.self-is)
     ]
 
-pub invariant_of-self-in_err-next_into : goal.invariant_of-self-in_err-next_into
-invariant_of-self-in_err-next_into c =
-    let gone = c.in_err-next_into.ensures.err in
-    goes_on c.self.inside.vars c.self.inside.products.now c.self.inside.place c.self.inside.statements c.next_into.new.self gone.0 gone.1 c.self.invariant
+pub invariant_of-self-in_err-statement : goal.invariant_of-self-in_err-statement
+invariant_of-self-in_err-statement c =
+    let gone = c.in_err-statement.ensures.err in
+    goes_on c.self.inside.vars c.self.inside.products.now c.self.inside.place c.self.inside.statements c.read_next.new.statements gone.0 gone.1 c.self.invariant
 
 pub invariant_of-self-in_err-group : goal.invariant_of-self-in_err-group
 invariant_of-self-in_err-group c =
-    goes_on c.self.inside.vars c.self.inside.products.now c.self.inside.place c.self.inside.statements c.next_into.new.self c.next_into.new.raw (c.in_ok-next_into.ensures.more c.if-not-branch.false) c.self.invariant
+    goes_on c.self.inside.vars c.self.inside.products.now c.self.inside.place c.self.inside.statements c.read_next.new.statements c.in-Some-2.statement (rw c.in-Some-2.is at c.in_ok-statement.ensures.some) c.self.invariant
 
 pub invariant_of-self-2 : goal.invariant_of-self-2
 invariant_of-self-2 c =
-    goes_on c.self.inside.vars c.self.inside.products.now c.self.inside.place c.self.inside.statements c.next_into.new.self c.next_into.new.raw (c.in_ok-next_into.ensures.more c.if-not-branch.false) c.self.invariant
+    goes_on c.self.inside.vars c.self.inside.products.now c.self.inside.place c.self.inside.statements c.read_next.new.statements c.in-Some-2.statement (rw c.in-Some-2.is at c.in_ok-statement.ensures.some) c.self.invariant
