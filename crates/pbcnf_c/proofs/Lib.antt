@@ -10,8 +10,6 @@ mod Decoded
 mod Numbered
 mod Worded
 mod Checked
-mod TermLists
-mod OneStatement
-mod Admitted
+mod Statements
 mod Constrained
 mod Chosen

@@ -16,7 +16,7 @@ use Rattle.pbcnf_c.specs.Choices.{options_of}
 use Rattle.pbcnf_c.specs.Ready.{StopsEncoding}
 use Rattle.pbcnf_c.specs.Rooms.{Ends}
 use Rattle.pbcnf_c.specs.Sizes.{no_size, problem_size}
-use Rattle.pbcnf_c.specs.Words.{wide}
+use Rattle.pb_columns.specs.Words.{wide}
 
 -- ---- rows in numbers
 

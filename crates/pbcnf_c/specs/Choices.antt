@@ -12,7 +12,7 @@ use Rattle.pb_base.specs.declared.options.General.TheVariants as general
 use Rattle.pb_base.specs.declared.options.Options.{Options}
 use Rattle.pbcnf_c.specs.declared.options.PbcnfBound.{PbcnfBound}
 use Rattle.pbcnf_c.specs.declared.options.PbcnfOptions.{PbcnfOptions}
-use Rattle.pbcnf_c.specs.Words.{wide}
+use Rattle.pb_columns.specs.Words.{wide}
 
 abbrev pub amo_of : ℕ → Option Amo
 amo_of n = if n == 0 then Some amo.Auto else if n == 1 then Some amo.Pairwise else if n == 2 then Some amo.Ladder else if n == 3 then Some amo.Product else None

@@ -1,4 +1,3 @@
-pub mod Words
 pub mod Choices
 pub mod Refusals
 pub mod Integers
@@ -13,7 +12,6 @@ pub mod Exports
 pub mod Weighings
 pub mod Decodings
 pub mod Checks
-pub mod Statements
 pub mod Constraints
 pub mod inner
 pub mod examples

@@ -22,3 +22,10 @@ pub record Tells (P : Outcome → Type 0) (status : ℕ) (refusal : PbcnfRefusal
   pub holds : P answer
   pub status_is : status ≡ status_of answer
   pub refusal_is : refusal ≡ refusal_of answer
+
+-- the same, where the refusal's number is that of the constraint to blame
+pub record TellsAt (P : ℕ → Outcome → Type 0) (status : ℕ) (refusal : PbcnfRefusal) : Type 0 where
+  pub answer : Outcome
+  pub holds : P refusal.number answer
+  pub status_is : status ≡ status_of answer
+  pub refusal_is : refusal ≡ record (refusal_of answer) { number = refusal.number }

@@ -1,2 +1,3 @@
+pub mod Blames
 pub mod Outcomes
 pub mod Shelves

@@ -9,7 +9,7 @@ ghost use Rattle.pbcnf_c.specs.Rooms.{Ends};
 ghost use Rattle.pbcnf_c.specs.Sizes.{no_size};
 
 use crate::integers::integer_of;
-use crate::number::halves;
+use pb_columns::halves;
 use crate::options::{PbcnfBound, PbcnfOptions};
 use crate::ready::{Ready, prepare};
 use crate::size::{Ending, delivered, stopped};

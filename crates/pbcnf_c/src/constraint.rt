@@ -1,20 +1,27 @@
-//! One constraint at a time.
-ghost use Rattle.std.specs.Prelude.{◌≡◌, ◌↔◌, None, IfErr, IfOk, IsTrue};
-ghost use Rattle.pbcnf_c.specs.Constraints.{ConstrainsInto, ConstraintDerivesInto, IsFit, IsReadyOf, StopsConstraint};
-ghost use Rattle.pbcnf_c.specs.Ready.{IsReady};
+//! One constraint: a column of one sum, which has all terms.
+ghost use Rattle.std.specs.Prelude.{◌≡◌, length};
+ghost use Rattle.pbcnf_c.specs.Constraints.{one_sum, ConstrainsOneInto, OneDerivesInto};
 
-use crate::encoding::{put_integers, put_steps};
-use crate::options::{PbcnfOptions, options_of};
-use crate::ready::{Ready, size_up};
-use crate::size::{Ending, stopped};
-use crate::statement::{
-    PbcnfSide, are_below, has_words, is_light, problem_of, relation_of, statement_of,
-};
-use pb_base::{LimitKind, MAX_TERMS, NoMemory};
-use pb_suite::Outcome;
+use crate::constraints::{constrain_into, derive_all_into};
+use crate::options::PbcnfOptions;
+use crate::size::Ending;
+use pb_columns::{Columns, PbcnfSum};
 use std::alloc::Global;
 
-/// A statement in numbers.
+/// What stands beside a sum.
+#[repr(C)]
+#[derive(Clone, Copy)]
+pub struct PbcnfSide {
+    /// 0 at least, 1 at most, 2 equal.
+    pub relation: u32,
+    /// The first fresh variable, from 1 to 2^31.
+    pub first: u32,
+    /// The right side in two's complement of 128 bits.
+    pub right_low: u64,
+    pub right_high: u64,
+}
+
+/// A constraint in numbers.
 #[derive(Drop)]
 pub struct Asked<'a> {
     /// One word for each literal, or two, the low one first.
@@ -23,76 +30,36 @@ pub struct Asked<'a> {
     pub side: &'a PbcnfSide,
 }
 
-// A limit that a statement passes.
-fn over(which: LimitKind) -> Outcome
-    ensures { result ≡ Outcome.Limit None which None }
+fn one_sum(side: &PbcnfSide, terms: usize) -> PbcnfSum
+    ensures { result ≡ one_sum side.now terms }
 {
-    Outcome::Limit {
-        file: None,
-        which,
-        place: None,
+    PbcnfSum {
+        relation: side.relation,
+        unused: 0,
+        terms: terms as u64,
+        right_low: side.right_low,
+        right_high: side.right_high,
     }
 }
 
-// Whether the words, the literals and the first fresh variable are in their ranges.
-fn is_fit(asked: &Asked<'_>) -> bool
-    ensures { IsTrue result ↔ IsFit asked.now.words.now asked.now.literals.now asked.now.side.now }
-{
-    let first = asked.side.first;
-    1 <= first
-        && first <= 0x8000_0000
-        && has_words(asked.words, asked.literals.len())
-        && are_below(asked.literals, first)
-}
-
-/// Sizes up the encoding of a statement.
-pub fn prepare_one(
-    alloc: Global,
-    asked: &Asked<'_>,
-    chosen: &PbcnfOptions,
-) -> Result<Ready, Outcome>
-    ensures ready { IfOk result IsReady }
-    ensures of { IfOk result (IsReadyOf chosen.now asked.now.words.now asked.now.literals.now asked.now.side.now) }
-    ensures stopped { IfErr result (StopsConstraint chosen.now asked.now.words.now asked.now.literals.now asked.now.side.now) }
-{
-    let Some(options) = options_of(chosen) else {
-        return Err(Outcome::Usage);
-    };
-    let Some(relation) = relation_of(asked.side.relation) else {
-        return Err(Outcome::Usage);
-    };
-    if !is_fit(asked) {
-        return Err(Outcome::Usage);
-    }
-    if asked.literals.len() > MAX_TERMS {
-        return Err(over(LimitKind::Terms));
-    }
-    let Ok(statement) = statement_of(alloc, asked.words, asked.literals, asked.side, relation)
-    else {
-        return Err(Outcome::NoMemory);
-    };
-    if !is_light(&statement) {
-        return Err(over(LimitKind::Weight));
-    }
-    match problem_of(alloc, asked.side.first, statement) {
-        Ok(problem) => size_up(alloc, problem, options),
-        Err(NoMemory) => Err(Outcome::NoMemory),
-    }
-}
-
-/// Puts the integers of the clauses of a statement.
-pub fn constrain_into(
+/// Puts the integers of the clauses of a constraint.
+pub fn constrain_one_into(
     alloc: Global,
     asked: &Asked<'_>,
     chosen: &PbcnfOptions,
     integers: &mut [i32],
 ) -> Ending
-    ensures { ConstrainsInto chosen.now asked.now.words.now asked.now.literals.now asked.now.side.now integers.old integers.new result.size result.outcome }
+    ensures { ConstrainsOneInto chosen.now asked.now.words.now asked.now.literals.now asked.now.side.now integers.old integers.new result.size result.outcome }
 {
-    match prepare_one(alloc, asked, chosen) {
-        Ok(ready) => put_integers(alloc, &ready, integers),
-        Err(outcome) => stopped(outcome),
-    }
+    let sums = [one_sum(asked.side, asked.literals.len())];
+    let columns = Columns {
+        words: asked.words,
+        literals: asked.literals,
+        sums: &sums,
+        first: asked.side.first,
+    };
+    let blamed = constrain_into(alloc, &columns, chosen, integers);
+    blamed.ending
 }
 
 /// Puts the derivation of these clauses.
@@ -102,10 +69,15 @@ pub fn derive_one_into(
     chosen: &PbcnfOptions,
     proof: &mut [u8],
 ) -> Ending
-    ensures { ConstraintDerivesInto chosen.now asked.now.words.now asked.now.literals.now asked.now.side.now proof.old proof.new result.size result.outcome }
+    ensures { OneDerivesInto chosen.now asked.now.words.now asked.now.literals.now asked.now.side.now proof.old proof.new result.size result.outcome }
 {
-    match prepare_one(alloc, asked, chosen) {
-        Ok(ready) => put_steps(alloc, &ready, proof),
-        Err(outcome) => stopped(outcome),
-    }
+    let sums = [one_sum(asked.side, asked.literals.len())];
+    let columns = Columns {
+        words: asked.words,
+        literals: asked.literals,
+        sums: &sums,
+        first: asked.side.first,
+    };
+    let blamed = derive_all_into(alloc, &columns, chosen, proof);
+    blamed.ending
 }

@@ -4,11 +4,11 @@
 mod bounds;
 mod checking;
 mod constraint;
+mod constraints;
 mod decoding;
 mod encoding;
 mod integers;
 mod line_sink;
-mod number;
 mod options;
 mod outcomes;
 mod ready;
@@ -17,30 +17,31 @@ mod room;
 mod said;
 mod shelves;
 mod size;
-mod statement;
 mod weighing;
 mod words;
 
 ghost use Rattle.std.specs.Prelude.{◌≡◌};
+ghost use Rattle.pb_columns.specs.Columns.{columns_at};
 ghost use Rattle.pbcnf_c.specs.Bounds.{BoundsInto};
 ghost use Rattle.pbcnf_c.specs.Choices.{bound_of};
 ghost use Rattle.pbcnf_c.specs.Checks.{Checks, Refutes};
-ghost use Rattle.pbcnf_c.specs.Constraints.{ConstrainsInto, ConstraintDerivesInto};
+ghost use Rattle.pbcnf_c.specs.Constraints.{ConstrainsInto, ConstrainsOneInto, ConstraintsDeriveInto, OneDerivesInto};
 ghost use Rattle.pbcnf_c.specs.Decodings.{DecodesInto, MapsInto};
 ghost use Rattle.pbcnf_c.specs.Exports.{DerivesInto, EncodesInto, HandsInto};
-ghost use Rattle.pbcnf_c.specs.Rooms.{Tells};
+ghost use Rattle.pbcnf_c.specs.Rooms.{Tells, TellsAt};
 ghost use Rattle.pbcnf_c.specs.Weighings.{WeighsInto};
 ghost use Rattle.pbcnf_c.specs.WordsSaid.{HasStatusOf, SaysRefusal};
 
 use bounds::{PbcnfRow, bounds_into};
 use checking::{check_texts, refute_texts};
-use constraint::{Asked, constrain_into, derive_one_into};
+use constraint::{Asked, PbcnfSide, constrain_one_into, derive_one_into};
+use constraints::{constrain_into, derive_all_into};
 use decoding::{decode_into, map_into};
 use encoding::{clauses_into, derive_into, encode_into};
 use options::{PbcnfBound, PbcnfOptions, bound_of};
-use refusal::{PbcnfRefusal, tell};
+use pb_columns::{Columns, PbcnfSum};
+use refusal::{PbcnfRefusal, tell, tell_at};
 use size::PbcnfSize;
-use statement::PbcnfSide;
 use std::alloc::Global;
 use weighing::weigh_into;
 use words::words_into;
@@ -262,6 +263,63 @@ pub extern "C" fn pbcnf_words(
     ending.outcome.status()
 }
 
+/// The clauses of many constraints as integers, one constraint's behind another's. Each has so many of the next terms. A coefficient is
+/// one word, or two, for each literal.
+#[unsafe(no_mangle)]
+pub extern "C" fn pbcnf_constraints(
+    alloc: Global,
+    coefficients: &[u64],
+    literals: &[i32],
+    sums: &[PbcnfSum],
+    first: u32,
+    options: &PbcnfOptions,
+    integers: &mut [i32],
+    size: &mut PbcnfSize,
+    refusal: &mut PbcnfRefusal,
+) -> u8
+    // The call ends as its status says: the integers of the clauses of all constraints are at the front of the room, or the room is too
+    // small, or the cause is the one that is there, with the number of the constraint to blame.
+    ensures { TellsAt (ConstrainsInto options.now (columns_at coefficients.now literals.now sums.now first) integers.old integers.new size.new) result refusal.new }
+{
+    let columns = Columns {
+        words: coefficients,
+        literals,
+        sums,
+        first,
+    };
+    let blamed = constrain_into(alloc, &columns, options, integers);
+    *size = blamed.ending.size;
+    tell_at(blamed.ending.outcome, blamed.at, refusal)
+}
+
+/// The text of the derivation of these clauses, beside the problem of these constraints.
+#[unsafe(no_mangle)]
+pub extern "C" fn pbcnf_constraints_derive(
+    alloc: Global,
+    coefficients: &[u64],
+    literals: &[i32],
+    sums: &[PbcnfSum],
+    first: u32,
+    options: &PbcnfOptions,
+    proof: &mut [u8],
+    size: &mut PbcnfSize,
+    refusal: &mut PbcnfRefusal,
+) -> u8
+    // The call ends as its status says: the derivation of the clauses of all constraints is at the front of the room, or the room is too
+    // small, or the cause is the one that is there, with the number of the constraint to blame.
+    ensures { TellsAt (ConstraintsDeriveInto options.now (columns_at coefficients.now literals.now sums.now first) proof.old proof.new size.new) result refusal.new }
+{
+    let columns = Columns {
+        words: coefficients,
+        literals,
+        sums,
+        first,
+    };
+    let blamed = derive_all_into(alloc, &columns, options, proof);
+    *size = blamed.ending.size;
+    tell_at(blamed.ending.outcome, blamed.at, refusal)
+}
+
 /// The clauses of one constraint as integers. A coefficient is one word, or two, for each literal.
 #[unsafe(no_mangle)]
 pub extern "C" fn pbcnf_constraint(
@@ -274,16 +332,16 @@ pub extern "C" fn pbcnf_constraint(
     size: &mut PbcnfSize,
     refusal: &mut PbcnfRefusal,
 ) -> u8
-    // The call ends as its status says: the integers of the statement's clauses are at the front of the room, or the room is too small,
+    // The call ends as its status says: the integers of the constraint's clauses are at the front of the room, or the room is too small,
     // or the cause is the one that is there.
-    ensures { Tells (ConstrainsInto options.now coefficients.now literals.now side.now integers.old integers.new size.new) result refusal.new }
+    ensures { Tells (ConstrainsOneInto options.now coefficients.now literals.now side.now integers.old integers.new size.new) result refusal.new }
 {
     let asked = Asked {
         words: coefficients,
         literals,
         side,
     };
-    let ending = constrain_into(alloc, &asked, options, integers);
+    let ending = constrain_one_into(alloc, &asked, options, integers);
     *size = ending.size;
     tell(ending.outcome, refusal)
 }
@@ -300,9 +358,9 @@ pub extern "C" fn pbcnf_constraint_derive(
     size: &mut PbcnfSize,
     refusal: &mut PbcnfRefusal,
 ) -> u8
-    // The call ends as its status says: the derivation of the statement's clauses is at the front of the room, or the room is too small,
+    // The call ends as its status says: the derivation of the constraint's clauses is at the front of the room, or the room is too small,
     // or the cause is the one that is there.
-    ensures { Tells (ConstraintDerivesInto options.now coefficients.now literals.now side.now proof.old proof.new size.new) result refusal.new }
+    ensures { Tells (OneDerivesInto options.now coefficients.now literals.now side.now proof.old proof.new size.new) result refusal.new }
 {
     let asked = Asked {
         words: coefficients,

@@ -246,3 +246,14 @@ pub fn tell(outcome: Outcome, refusal: &mut PbcnfRefusal) -> u8
     *refusal = refusal_of(outcome);
     outcome.status()
 }
+
+/// The same, beside the number of the constraint to blame.
+pub fn tell_at(outcome: Outcome, at: u64, refusal: &mut PbcnfRefusal) -> u8
+    ensures status { result ≡ status_of outcome }
+    ensures numbers { refusal.new ≡ record (refusal_of outcome) { number = at } }
+{
+    let mut told = refusal_of(outcome);
+    told.number = at;
+    *refusal = told;
+    outcome.status()
+}

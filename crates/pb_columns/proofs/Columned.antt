@@ -1,0 +1,106 @@
+-- Sums, their heads, and the statements that they give.
+use Rattle.std.proofs.Common.{◌≡◌, ◌≤◌, ◌<◌, ◌+◌, ◌-◌, ◌^◌, ◌∙◌, ◌++◌, [], ◌∷◌, ℕ, ℤ, Bool, true, false, List, Option, Some, None, ap, arith, drop, length, map, refl, subst, sym, take}
+use Rattle.std.specs.Prelude.{All, sum_by}
+use Rattle.std.specs.Option.{option_map}
+use Rattle.std.proofs.lemmas.List.{length-map, length-take, map_push, take_all}
+use Rattle.std.proofs.lemmas.List.Elements.{All-nil, All-cons, All-head, All-tail, All-take, All-drop}
+use Rattle.std.proofs.lemmas.Option.{none-some}
+use Rattle.std.proofs.lemmas.List.Sums.{sum_by-cons}
+use Rattle.pb_base.specs.declared.heads.Head.{Head}
+use Rattle.pb_base.specs.declared.literal.Term.{Term}
+use Rattle.pb_base.specs.declared.problem.Raw.{Raw}
+use Rattle.pb_base.specs.declared.problem.Relation.{Relation}
+use Rattle.pb_base.specs.Problems.{originals, IsProductWithin, IsSumWithin, IsWithinLimits, StaysBelow}
+use Rattle.pb_base.specs.Statements.{statements_in, term_count}
+use Rattle.pb_dimacs.specs.CnfReading.{literal_number}
+use Rattle.pb_columns.specs.declared.sum.PbcnfSum.{PbcnfSum}
+use Rattle.pb_columns.specs.Columns.{head_of, head_with, problem_of, relation_in, terms_asked, AreFit, AreStatementsOf, AreTermsOf, Columns}
+use Rattle.pb_columns.specs.Words.{wide}
+
+-- ---- heads
+
+abbrev terms_told : Option Head → ℕ
+terms_told None = 0
+terms_told (Some h) = h.terms
+
+-- a head has so many terms as its sum tells
+pub head_terms : (m : PbcnfSum) (h : Head) → head_of m ≡ Some h → h.terms ≡ m.terms
+head_terms m h is = by_cases (relation_in m) is
+  where
+    by_cases : (r : Option Relation) → option_map (head_with m) r ≡ Some h → h.terms ≡ m.terms
+    by_cases (Some r) same = sym (ap terms_told same)
+    by_cases None same = absurd (none-some h same)
+
+-- that of a relation
+pub related : (m : PbcnfSum) (r : Relation) → relation_in m ≡ Some r → head_of m ≡ Some (head_with m r)
+related m r is = ap (λ (o : Option Relation). option_map (head_with m) o) is
+
+-- that of none
+pub unrelated : (m : PbcnfSum) → relation_in m ≡ None → head_of m ≡ None
+unrelated m is = ap (λ (o : Option Relation). option_map (head_with m) o) is
+
+pub next_head : (sums : List PbcnfSum) (i : ℕ) (m : PbcnfSum) (h : Head) (old new : List Head) → map Some old ≡ map head_of (take i sums) → map head_of (take (i + 1) sums) ≡ map head_of (take i sums) ++ head_of m ∷ [] → head_of m ≡ Some h → new ≡ old ++ h ∷ []
+    → map Some new ≡ map head_of (take (i + 1) sums)
+next_head sums i m h old new before more is pushed =
+    ap (map Some) pushed ∙ map_push Some old h ∙ ap (λ (os : List (Option Head)). os ++ Some h ∷ []) before
+    ∙ ap (λ (o : Option Head). map head_of (take i sums) ++ o ∷ []) (sym is) ∙ sym more
+
+abbrev first_of : List (Option Head) → Option Head
+first_of [] = None
+first_of (o ∷ os) = o
+
+abbrev rest_of : List (Option Head) → List (Option Head)
+rest_of [] = []
+rest_of (o ∷ os) = os
+
+-- and all heads together so many as all sums do
+pub heads_counted : (hs : List Head) (sums : List PbcnfSum) → map Some hs ≡ map head_of sums → term_count hs ≡ terms_asked sums
+heads_counted [] [] same = refl
+heads_counted [] (m ∷ sums) same = absurd (cc)
+heads_counted (h ∷ hs) [] same = absurd (cc)
+heads_counted (h ∷ hs) (m ∷ sums) same =
+    let here = head_terms m h (sym (ap first_of same)) in
+    let rest = heads_counted hs sums (ap rest_of same) in
+    sum_by-cons (λ (h : Head). h.terms) h hs ∙ ap (λ (n : ℕ). n + term_count hs) here ∙ ap (λ (n : ℕ). m.terms + n) rest ∙ sym (sum_by-cons (λ (m : PbcnfSum). m.terms) m sums)
+
+pub heads_many : (hs : List Head) (sums : List PbcnfSum) → map Some hs ≡ map head_of sums → length hs ≡ length sums
+heads_many hs sums same = sym (length-map hs Some) ∙ ap (λ (os : List (Option Head)). length os) same ∙ length-map sums head_of
+
+-- so many terms as literals
+pub terms_many : (words : List ℕ) (literals : List ℤ) (first : ℕ) (ts : List Term) → AreTermsOf words literals first (length literals) ts → length ts ≡ length literals
+terms_many words literals first ts are = sym (length-map ts (λ (t : Term). literal_number t.lit)) ∙ ap (λ (zs : List ℤ). length zs) (are.literals_are ∙ take_all (length literals) literals (omega arith))
+
+-- ---- statements
+
+pub statements_many : (hs : List Head) (ts : List Term) → length (statements_in hs ts) ≡ length hs
+statements_many [] ts = refl
+statements_many (h ∷ hs) ts = omega (arith, statements_many hs (drop h.terms ts))
+
+sums_within : (vars : ℕ) (hs : List Head) (ts : List Term) → All (λ h. h.terms ≤ 2 ^ 20) hs → All (λ t. 1 ≤ t.lit.var) ts → All (λ t. t.lit.var ≤ vars) ts → All (λ (s : Raw). IsSumWithin vars s.terms) (statements_in hs ts)
+sums_within vars [] ts short from below = All-nil (λ (s : Raw). IsSumWithin vars s.terms)
+sums_within vars (h ∷ hs) ts short from below =
+    let few = All-head (λ (h : Head). h.terms ≤ 2 ^ 20) h hs short in
+    All-cons (λ (s : Raw). IsSumWithin vars s.terms) (record { terms = take h.terms ts; relation = h.relation; right = h.right }) (statements_in hs (drop h.terms ts)) (record {
+      vars_from = All-take (λ (t : Term). 1 ≤ t.lit.var) h.terms ts from;
+      vars_within = All-take (λ (t : Term). t.lit.var ≤ vars) h.terms ts below;
+      count = omega (arith, few, length-take h.terms ts);
+    }) (sums_within vars hs (drop h.terms ts) (All-tail (λ (h : Head). h.terms ≤ 2 ^ 20) h hs short) (All-drop (λ (t : Term). 1 ≤ t.lit.var) h.terms ts from) (All-drop (λ (t : Term). t.lit.var ≤ vars) h.terms ts below))
+
+-- they are a problem within its limits
+pub is_within : (first : ℕ) (ss : List Raw) → 1 ≤ first → first ≤ 2 ^ 31 → length ss ≤ 2 ^ 24 → All (λ s. IsSumWithin (first - 1) s.terms) ss → All (StaysBelow (2 ^ 100)) ss → IsWithinLimits (problem_of first ss)
+is_within first ss low high few sums light = record {
+  vars = omega (arith, low, high);
+  named = omega arith;
+  products = All-nil (IsProductWithin (first - 1));
+  count = omega (arith, few);
+  sums = subst (λ (n : ℕ). All (λ (s : Raw). IsSumWithin n s.terms) ss) vars sums;
+  numbers = light;
+  objective = tt;
+}
+  where
+    vars : first - 1 ≡ originals (problem_of first ss)
+    vars = omega arith
+
+-- the sums of statements in columns
+pub sums_in : (words : List ℕ) (literals : List ℤ) (first : ℕ) (hs : List Head) (ts : List Term) → 1 ≤ first → All (λ h. h.terms ≤ 2 ^ 20) hs → AreTermsOf words literals first (length literals) ts → All (λ s. IsSumWithin (first - 1) s.terms) (statements_in hs ts)
+sums_in words literals first hs ts low short are = sums_within (first - 1) hs ts short are.from (λ k d l. (let h = are.below k d l in omega (arith, h, low)))

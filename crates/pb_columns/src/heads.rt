@@ -1,0 +1,54 @@
+//! What stands beside the terms of sums.
+ghost use Rattle.std.specs.Prelude.{◌≡◌, ◌≤◌, ◌∷◌, ◌++◌, [], ◌^◌, All, IfErr, IfOk, OnOk, Some, map};
+ghost use Rattle.pb_columns.specs.Columns.{head_of, head_with, HasMoreHead, StopsHeads, StopsSum};
+
+use crate::fault::ColumnFault;
+use crate::number::wide;
+use crate::sum::{PbcnfSum, relation_in};
+use pb_base::{Head, Heads, LimitKind, MAX_TERMS, NoMemory, Relation};
+use std::alloc::Global;
+
+// What the statement of a sum has beside its terms.
+fn head_with(sum: &PbcnfSum, relation: Relation) -> Head
+    requires { sum.now.terms ≤ 2 ^ 20 }
+    ensures { result ≡ head_with sum.now relation }
+{
+    Head {
+        terms: sum.terms as u32,
+        relation,
+        right: wide(sum.right_low, sum.right_high),
+    }
+}
+
+// Adds the head of a sum that stands at this place, from 1.
+fn push_head(heads: &mut Heads, sum: &PbcnfSum, at: u64) -> Result<(), ColumnFault>
+    ensures ok { OnOk result (HasMoreHead sum.now heads.old heads.new) }
+    ensures stopped { IfErr result (StopsSum sum.now at) }
+{
+    let Some(relation) = relation_in(sum) else {
+        return Err(ColumnFault::Unfit { at });
+    };
+    if sum.terms > MAX_TERMS as u64 {
+        return Err(ColumnFault::Limit {
+            which: LimitKind::Terms,
+            at,
+        });
+    }
+    match heads.push(head_with(sum, relation)) {
+        Ok(()) => Ok(()),
+        Err(NoMemory) => Err(ColumnFault::NoMemory),
+    }
+}
+
+/// The heads of sums.
+pub(crate) fn heads_of(alloc: Global, sums: &[PbcnfSum]) -> Result<Heads, ColumnFault>
+    ensures heads { IfOk result (λ heads. map Some heads ≡ map head_of sums.now) }
+    ensures short { IfOk result (λ heads. All (λ h. h.terms ≤ 2 ^ 20) heads) }
+    ensures stopped { IfErr result (StopsHeads sums.now) }
+{
+    let mut heads = Heads::new(alloc);
+    for place in 0..sums.len() {
+        push_head(&mut heads, &sums[place], place as u64 + 1)?;
+    }
+    Ok(heads)
+}

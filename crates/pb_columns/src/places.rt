@@ -1,0 +1,45 @@
+//! Which sum a term is of.
+ghost use Rattle.std.specs.Prelude.{◌≡◌, ◌<◌, length, sum_by};
+ghost use Rattle.pb_columns.specs.Columns.{terms_asked, FindsOutside, IsPlaceOf};
+
+use crate::literals::is_below;
+use crate::sum::PbcnfSum;
+
+/// How many terms the sums have.
+pub(crate) fn terms_asked(sums: &[PbcnfSum]) -> u128
+    ensures { result ≡ terms_asked sums.now }
+{
+    let mut count = 0;
+    for sum in sums {
+        count += u128::from(sum.terms);
+    }
+    count
+}
+
+/// The place of a literal, from 0, that is of no variable below the first fresh one.
+pub(crate) fn first_outside(numbers: &[i32], first: u32) -> Option<usize>
+    ensures { FindsOutside first numbers.now result }
+{
+    for place in 0..numbers.len() {
+        if !is_below(numbers[place], first) {
+            return Some(place);
+        }
+    }
+    None
+}
+
+/// The sum, from 1, that has the term at this place, from 0.
+pub(crate) fn sum_at(sums: &[PbcnfSum], place: usize) -> u64
+    requires { place < terms_asked sums.now }
+    ensures { IsPlaceOf sums.now place result }
+{
+    let mut left = place as u64;
+    for at in 0..sums.len() {
+        let terms = sums[at].terms;
+        if left < terms {
+            return at as u64 + 1;
+        }
+        left -= terms;
+    }
+    0
+}

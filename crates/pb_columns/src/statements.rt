@@ -1,0 +1,98 @@
+//! The statements of columns.
+ghost use Rattle.std.specs.Prelude.{◌≡◌, ◌≤◌, ◌-◌, ◌↔◌, All, IfErr, IfOk, IsTrue, length};
+ghost use Rattle.pb_base.specs.Problems.{IsSumWithin, IsWithinLimits};
+ghost use Rattle.pb_columns.specs.Columns.{problem_of, columns_at, AreFit, AreStatementsOf, StopsColumns};
+
+use crate::fault::ColumnFault;
+use crate::heads::heads_of;
+use crate::places::{first_outside, sum_at, terms_asked};
+use crate::sum::PbcnfSum;
+use crate::terms::{has_words, terms_of};
+use crate::weights::first_heavy;
+use pb_base::{LimitKind, MAX_STATEMENTS, Names, NoMemory, Problem, Products, Statements};
+use std::alloc::Global;
+
+/// Sums in columns: the terms of each behind those of the one before.
+#[derive(Drop)]
+pub struct Columns<'a> {
+    /// One word for each literal, or two, the low one first.
+    pub words: &'a [u64],
+    pub literals: &'a [i32],
+    pub sums: &'a [PbcnfSum],
+    /// The first fresh variable.
+    pub first: u32,
+}
+
+// Whether the first fresh variable and the lengths of the columns are in their ranges.
+fn is_fit(columns: &Columns<'_>) -> bool
+    ensures { IsTrue result ↔ AreFit (columns_at columns.now.words.now columns.now.literals.now columns.now.sums.now columns.now.first) }
+{
+    1 <= columns.first
+        && columns.first <= 0x8000_0000
+        && has_words(columns.words, columns.literals.len())
+        && terms_asked(columns.sums) == columns.literals.len() as u128
+}
+
+// The statements of columns that fit, as long as their numbers are not too great.
+fn joined(alloc: Global, columns: &Columns<'_>) -> Result<Statements, ColumnFault>
+    requires { AreFit (columns_at columns.now.words.now columns.now.literals.now columns.now.sums.now columns.now.first) }
+    ensures given { IfOk result (AreStatementsOf (columns_at columns.now.words.now columns.now.literals.now columns.now.sums.now columns.now.first)) }
+    ensures sums { IfOk result (λ ss. All (λ s. IsSumWithin (columns.now.first - 1) s.terms) ss) }
+    ensures many { IfOk result (λ ss. length ss ≡ length columns.now.sums.now) }
+    ensures stopped { IfErr result (StopsColumns (columns_at columns.now.words.now columns.now.literals.now columns.now.sums.now columns.now.first)) }
+{
+    let heads = heads_of(alloc, columns.sums)?;
+    if let Some(place) = first_outside(columns.literals, columns.first) {
+        return Err(ColumnFault::Unfit {
+            at: sum_at(columns.sums, place),
+        });
+    }
+    match terms_of(alloc, columns.words, columns.literals, columns.first) {
+        Ok(terms) => Ok(Statements::from_columns(heads, terms)),
+        Err(NoMemory) => Err(ColumnFault::NoMemory),
+    }
+}
+
+/// The statements of columns.
+pub fn statements_of(alloc: Global, columns: &Columns<'_>) -> Result<Statements, ColumnFault>
+    // The statements are those of the sums, each with its terms, its relation and its right side.
+    ensures given { IfOk result (AreStatementsOf (columns_at columns.now.words.now columns.now.literals.now columns.now.sums.now columns.now.first)) }
+    // Their problem is within the limits of problems.
+    ensures within { IfOk result (λ ss. IsWithinLimits (problem_of columns.now.first ss)) }
+    // Else there is the cause that is told, of the sum that is told.
+    ensures stopped { IfErr result (StopsColumns (columns_at columns.now.words.now columns.now.literals.now columns.now.sums.now columns.now.first)) }
+{
+    if !is_fit(columns) {
+        return Err(ColumnFault::Unfit { at: 0 });
+    }
+    if columns.sums.len() > MAX_STATEMENTS {
+        return Err(ColumnFault::Limit {
+            which: LimitKind::Statements,
+            at: 0,
+        });
+    }
+    let statements = joined(alloc, columns)?;
+    match first_heavy(&statements) {
+        None => Ok(statements),
+        Some(at) => Err(ColumnFault::Limit {
+            which: LimitKind::Weight,
+            at,
+        }),
+    }
+}
+
+/// The problem of statements, over the variables below the first fresh one.
+pub fn problem_of(alloc: Global, first: u32, statements: Statements) -> Problem
+    requires { 1 ≤ first }
+    // The problem has these statements, and all variables below the first fresh one.
+    ensures { result ≡ problem_of first statements }
+{
+    Problem {
+        vars: first - 1,
+        numbered: first - 1,
+        names: Names::new(alloc),
+        products: Products::new(alloc),
+        objective: None,
+        statements,
+    }
+}
