@@ -22,7 +22,7 @@ use Rattle.pbcnf_c.specs.inner.Outcomes.{denied_at, expected_at, file_at, limit_
 file_back : (x : File) → file_at (file_number x) ≡ Some x
 file_back x = grind arith
 
-file_told : (x : File) → (file_number x == 0) ≡ false
+pub file_told : (x : File) → (file_number x == 0) ≡ false
 file_told x = grind arith
 
 limit_back : (x : LimitKind) → limit_at (limit_number x) ≡ Some x

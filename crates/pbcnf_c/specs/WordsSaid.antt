@@ -1,6 +1,7 @@
 -- What the call that says a refusal in words answers. Our own.
-use Rattle.std.specs.Prelude.{ℕ, ◌≡◌, ◌≢◌, ◌≤◌, ◌<◌, ◌^◌, List, length, Option, Some, None}
+use Rattle.std.specs.Prelude.{ℕ, ◌≡◌, ◌≢◌, ◌≤◌, ◌<◌, ◌^◌, List, length, ◌==◌, ◌&&◌, ◌||◌, ◌++◌, codes, decimal, if◌then◌else◌, Option, Some, None}
 use Rattle.pb_base.specs.declared.place.Place.{Place}
+use Rattle.pb_base.specs.Phrases.{limit_word}
 use Rattle.pb_steps.specs.declared.denied.Denied.{Denied}
 use Rattle.pb_steps.specs.declared.denied.Denied.TheVariants as denied
 use Rattle.pb_suite.specs.declared.outcome.Outcome.{Outcome}
@@ -34,18 +35,38 @@ IsProper (outcome.Rejected line denied) = NamesVariable denied
 IsProper outcome.ReadFault = ⊥
 IsProper other = Unit {0}
 
+-- ---- words of calls
+
+-- the numbers of an outcome, with that of the constraint to blame where one can be
+abbrev pub blamed : ℕ → Outcome → PbcnfRefusal
+blamed at outcome.Usage = record (refusal_of outcome.Usage) { number = at }
+blamed at (outcome.Limit None which place) = record (refusal_of (outcome.Limit None which place)) { number = at }
+blamed at other = refusal_of other
+
+-- what is to blame: a constraint, or what these words say
+abbrev pub blame_words : ℕ → List ℕ → List ℕ
+blame_words at all = codes "pbcnf: " ++ (if at == 0 then all else codes "constraint " ++ decimal at) ++ codes ": "
+
+-- The words of the program, but where a call has no command line, a room in place of a file, and a constraint to blame.
+abbrev pub call_words : ℕ → Outcome → List ℕ
+call_words at outcome.Usage = blame_words at (codes "usage") ++ codes "a number is out of its range"
+call_words at (outcome.Limit None which place) = blame_words at (codes "totals") ++ codes "limit " ++ limit_word which
+call_words at outcome.WriteFault = codes "pbcnf: the room is too small"
+call_words at other = outcome_words other
+
 -- ---- the call
 
--- The words are those of an outcome that has these numbers, which the program tells in the same words.
+-- The words are those of an outcome that has these numbers, and of the constraint to blame.
 pub record AreWordsOf (refusal : PbcnfRefusal) (words : List ℕ) (count : ℕ) : Type 0 where
   pub told : Outcome
-  pub has_numbers : refusal ≡ refusal_of told
-  pub words_are : words ≡ outcome_words told
+  pub at : ℕ
+  pub has_numbers : refusal ≡ blamed at told
+  pub words_are : words ≡ call_words at told
   pub count_is : count ≡ length words
 
 -- no call has these numbers, or memory was wanting
 pub data StopsSaying (refusal : PbcnfRefusal) : Outcome → Type 0 where
-  unknown : ((o : Outcome) → IsProper o → refusal ≢ refusal_of o) → StopsSaying refusal outcome.Usage
+  unknown : ((at : ℕ) (o : Outcome) → IsProper o → refusal ≢ blamed at o) → StopsSaying refusal outcome.Usage
   no_memory : StopsSaying refusal outcome.NoMemory
 
 -- The words are put, or their length told, or why there are none.
