@@ -94,7 +94,7 @@ typedef struct {
 typedef struct {
   uint64_t line;     /* from 1: of a place in a text, of a step, or of a line of a refutation */
   uint64_t column;   /* from 1, in bytes: of a place in a text. A limit may have no place: both 0 */
-  uint64_t number;   /* the violated statement, or the variable or id that denied and unproved tell beside */
+  uint64_t number;   /* the violated statement; the constraint to blame; or the variable or id that denied and unproved tell beside */
   uint32_t status;   /* what the call returned */
   uint32_t file;     /* which text: PBCNF_FILE_... */
   uint32_t expected; /* what its grammar allows there: PBCNF_EXPECTED_... */
@@ -268,9 +268,35 @@ uint8_t pbcnf_constraint_derive(const uint64_t *coefficients, size_t coefficient
                                 const pbcnf_side *side, const pbcnf_options *options, uint8_t *proof, size_t room,
                                 pbcnf_size *size, pbcnf_refusal *refusal);
 
+/* ---- many constraints in one call: their terms in columns, those of each constraint behind those of the one before */
+
+/* What stands beside a sum, whose terms are the next ones. */
+typedef struct {
+  uint32_t relation;   /* PBCNF_AT_LEAST, PBCNF_AT_MOST, PBCNF_EQUAL */
+  uint32_t unused;     /* 0 */
+  uint64_t terms;      /* how many terms it has */
+  uint64_t right_low;  /* the right side, in two's complement of 128 bits, as two words of 64 */
+  uint64_t right_high;
+} pbcnf_sum;
+
+/* The clauses of `constraints` constraints as integers, one constraint's behind another's, and their fresh variables likewise from
+ * first on: what pbcnf_constraint puts, constraint after constraint, each with the first variable that is still free. coefficients,
+ * literals and first are as there, `count` are all literals, and the sums tell how many are each one's.
+ * At PBCNF_USAGE and PBCNF_LIMIT refusal->number is the constraint to blame, from 1, and 0 where no single one is: a bad option or
+ * first, counts that do not fit, more than 2^24 constraints, more variables or clauses than may be. Statuses 0, 2, 3, 5, 6. */
+uint8_t pbcnf_constraints(const uint64_t *coefficients, size_t coefficient_words, const int32_t *literals, size_t count,
+                          const pbcnf_sum *sums, size_t constraints, uint32_t first, const pbcnf_options *options,
+                          int32_t *integers, size_t room, pbcnf_size *size, pbcnf_refusal *refusal);
+
+/* The derivation of these clauses, as a text beside the problem of these constraints alone. size->length: its bytes. */
+uint8_t pbcnf_constraints_derive(const uint64_t *coefficients, size_t coefficient_words, const int32_t *literals, size_t count,
+                                 const pbcnf_sum *sums, size_t constraints, uint32_t first, const pbcnf_options *options,
+                                 uint8_t *proof, size_t room, pbcnf_size *size, pbcnf_refusal *refusal);
+
 /* ---- the words of a refusal, as the program prints them on standard error ("pbcnf: OPB 3:7: expected a literal"), without the
- * line's end; none at PBCNF_DONE. *length: its bytes (160 are enough). Numbers that no call fills in: PBCNF_USAGE, and *length
- * is 0. Statuses 0, 2, 5, 6. */
+ * line's end; none at PBCNF_DONE. A call has words of its own for PBCNF_USAGE, for PBCNF_NO_ROOM, and where a constraint is to blame
+ * ("pbcnf: constraint 3: limit terms"). *length: its bytes (160 are enough). Numbers that no call fills in: PBCNF_USAGE, and
+ * *length is 0. Statuses 0, 2, 5, 6. */
 uint8_t pbcnf_words(const pbcnf_refusal *refusal, uint8_t *said, size_t room, uint64_t *length);
 
 /* In C alone, over what pbcnf_clauses or pbcnf_constraint put: hands each integer to a solver's add (IPASIR's ipasir_add). */
@@ -294,6 +320,7 @@ PBCNF_FRONT(pbcnf_integers_front, int32_t, int32_t)
 PBCNF_FRONT(pbcnf_literals_front, const int32_t, int32_t)
 PBCNF_FRONT(pbcnf_coefficients_front, const uint64_t, uint64_t)
 PBCNF_FRONT(pbcnf_rows_front, pbcnf_row, pbcnf_row)
+PBCNF_FRONT(pbcnf_sums_front, const pbcnf_sum, pbcnf_sum)
 #undef PBCNF_FRONT
 
 /* A call over a problem. */
@@ -319,6 +346,18 @@ PBCNF_FRONT(pbcnf_wcnf, uint8_t, pbcnf_bytes_front)
   }
 PBCNF_FRONT(pbcnf_constraint, int32_t, pbcnf_integers_front)
 PBCNF_FRONT(pbcnf_constraint_derive, uint8_t, pbcnf_bytes_front)
+#undef PBCNF_FRONT
+
+/* A call over many. */
+#define PBCNF_FRONT(name, item, front) \
+  static inline uint8_t name##_front(const uint64_t *coefficients, size_t words, const int32_t *literals, size_t count, \
+                                     const pbcnf_sum *sums, size_t constraints, uint32_t first, const pbcnf_options *options, \
+                                     item *put, size_t room, pbcnf_size *size, pbcnf_refusal *refusal) { \
+    return name(pbcnf_coefficients_front(coefficients, words), words, pbcnf_literals_front(literals, count), count, \
+                pbcnf_sums_front(sums, constraints), constraints, first, options, front(put, room), room, size, refusal); \
+  }
+PBCNF_FRONT(pbcnf_constraints, int32_t, pbcnf_integers_front)
+PBCNF_FRONT(pbcnf_constraints_derive, uint8_t, pbcnf_bytes_front)
 #undef PBCNF_FRONT
 
 static inline uint8_t pbcnf_decode_front(const uint8_t *opb, size_t opb_len, const pbcnf_bound *bound, const uint8_t *model,
@@ -356,6 +395,8 @@ static inline uint8_t pbcnf_words_front(const pbcnf_refusal *refusal, uint8_t *s
 #define pbcnf_refute pbcnf_refute_front
 #define pbcnf_constraint pbcnf_constraint_front
 #define pbcnf_constraint_derive pbcnf_constraint_derive_front
+#define pbcnf_constraints pbcnf_constraints_front
+#define pbcnf_constraints_derive pbcnf_constraints_derive_front
 #define pbcnf_words pbcnf_words_front
 #endif
 #ifdef __cplusplus

@@ -210,6 +210,25 @@ struct One {
   pbcnf_options options;
 };
 
+/* A column of constraints, as the library takes it. */
+struct All {
+  const std::vector<std::uint64_t> &words;
+  const std::vector<std::int32_t> &literals;
+  const std::vector<pbcnf_sum> &sums;
+  std::uint32_t first;
+  pbcnf_options options;
+};
+
+template <typename Room, typename Put, typename Make>
+Room all(Room room, const All &asked, pbcnf_size &size, Make make, Put put) {
+  return filled(std::move(room), [&](Room &filled, std::uint64_t &length, pbcnf_refusal &refusal) {
+    const std::uint8_t status = make(asked.words.data(), asked.words.size(), asked.literals.data(), asked.literals.size(), asked.sums.data(),
+                                     asked.sums.size(), asked.first, &asked.options, put(filled), filled.size(), &size, &refusal);
+    length = size.length;
+    return status;
+  });
+}
+
 template <typename Room, typename Put, typename Make>
 Room one(Room room, const One &asked, pbcnf_size &size, Make make, Put put) {
   return filled(std::move(room), [&](Room &filled, std::uint64_t &length, pbcnf_refusal &refusal) {
@@ -340,6 +359,57 @@ inline std::string derive_constraint(const Constraint &asked, std::uint32_t firs
   pbcnf_size size;
   return detail::one(std::string(512 * asked.literals.size() + 4096, '\0'),
                      {words.data(), words.size(), asked.literals, side, options.numbers()}, size, pbcnf_constraint_derive,
+                     [](std::string &room) { return detail::bytes(room); });
+}
+
+/* ---- many constraints in one call */
+
+/* Constraints in columns: the terms of each behind those of the one before. They are made once, and can be added to. */
+class Constraints {
+ public:
+  void add(const Constraint &asked) { add(asked.coefficients, asked.literals, asked.relation, asked.right); }
+
+  /* A literal is a variable's number or its negative, and each has its coefficient. */
+  void add(const std::vector<Number> &coefficients, const std::vector<std::int32_t> &literals, Relation relation, Number right) {
+    if (coefficients.size() != literals.size()) throw std::invalid_argument("each literal has one coefficient");
+    for (const Number &number : coefficients) words_.insert(words_.end(), {number.low, number.high});
+    literals_.insert(literals_.end(), literals.begin(), literals.end());
+    sums_.push_back({static_cast<std::uint32_t>(relation), 0, literals.size(), right.low, right.high});
+  }
+
+  /* How many there are. */
+  std::size_t size() const { return sums_.size(); }
+
+  void clear() {
+    words_.clear();
+    literals_.clear();
+    sums_.clear();
+  }
+
+ private:
+  friend Encoding constraints(const Constraints &, std::uint32_t, const Options &);
+  friend std::string derive_constraints(const Constraints &, std::uint32_t, const Options &);
+
+  std::vector<std::uint64_t> words_;
+  std::vector<std::int32_t> literals_;
+  std::vector<pbcnf_sum> sums_;
+};
+
+/* The clauses of all constraints, one behind another, with their fresh variables from `first` on. A refusal's number is the constraint to
+ * blame, from 1, and 0 where no single one is. */
+inline Encoding constraints(const Constraints &asked, std::uint32_t first, const Options &options = {}) {
+  using Room = std::vector<std::int32_t>;
+  pbcnf_size size;
+  Room integers = detail::all(Room(32 * asked.literals_.size() + 256), {asked.words_, asked.literals_, asked.sums_, first, options.numbers()},
+                              size, pbcnf_constraints, [](Room &room) { return room.data(); });
+  return Encoding(std::move(integers), size);
+}
+
+/* The derivation of these clauses, beside the problem of these constraints over the variables below `first`. */
+inline std::string derive_constraints(const Constraints &asked, std::uint32_t first, const Options &options = {}) {
+  pbcnf_size size;
+  return detail::all(std::string(512 * asked.literals_.size() + 4096, '\0'),
+                     {asked.words_, asked.literals_, asked.sums_, first, options.numbers()}, size, pbcnf_constraints_derive,
                      [](std::string &room) { return detail::bytes(room); });
 }
 

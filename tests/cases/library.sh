@@ -3,7 +3,7 @@
 
 library=$top/library
 own=$top/tests/library
-sources=("$top"/crates/pbcnf_c/src/*.rt)
+sources=("$top"/crates/pb_columns/src/*.rt "$top"/crates/pbcnf_c/src/*.rt)
 
 if [ ! -f "$linked/libpbcnf.a" ] || [ ! -f "$linked/libpbcnf.so.0" ]; then
     skip 'the library is not built; library/build builds it'
@@ -138,6 +138,8 @@ try_programs() {
     judged ./misuse
     compile constraints
     judged ./constraints
+    compile columns
+    judged ./columns
     if makes -Wl,--wrap=malloc; then
         compile growth -Wl,--wrap=malloc,--wrap=realloc,--wrap=free
         judged ./growth

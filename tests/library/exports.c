@@ -27,6 +27,16 @@ POSED(pbcnf_wcnf, uint8_t)
 ONE(pbcnf_constraint, int32_t)
 ONE(pbcnf_constraint_derive, uint8_t)
 
+#define ALL(name, type) \
+  uint8_t name(const uint64_t *coefficients, size_t words, const int32_t *literals, size_t count, const pbcnf_sum *sums, \
+               size_t constraints, uint32_t first, const pbcnf_options *options, type *put, size_t room, pbcnf_size *size, \
+               pbcnf_refusal *refusal) { \
+    return (void)words, (void)count, (void)constraints, (void)first, (void)options, (void)room, (void)size, (void)refusal, \
+           seen(coefficients, literals, sums, put); \
+  }
+ALL(pbcnf_constraints, int32_t)
+ALL(pbcnf_constraints_derive, uint8_t)
+
 uint8_t pbcnf_decode(const uint8_t *opb, size_t opb_len, const pbcnf_bound *bound, const uint8_t *model, size_t model_len, uint8_t *said,
                      size_t room, uint64_t *length, pbcnf_refusal *refusal) {
   return (void)opb_len, (void)model_len, (void)room, (void)length, (void)refusal, seen(opb, bound, model, said);

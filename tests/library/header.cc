@@ -99,6 +99,29 @@ void try_constraints() {
   judge(pbcnf::derive_constraint(heavy, 41) == pbcnf::derive(text), "and of derivations");
 }
 
+void try_many() {
+  const pbcnf::Constraint first = {{1, 1, 1}, {1, -2, 3}, pbcnf::Relation::at_most, 1}, second = {{2, 3, -4}, {4, 5, -6}, pbcnf::Relation::equal, 1};
+  pbcnf::Constraints both;
+  judge(both.size() == 0 && pbcnf::constraints(both, 9).integers().empty() && pbcnf::constraints(both, 9).next_free() == 9, "no constraint");
+  both.add(first);
+  both.add(second);
+  const pbcnf::Encoding one = pbcnf::constraint(first, 9), other = pbcnf::constraint(second, one.next_free()), made = pbcnf::constraints(both, 9);
+  std::vector<std::int32_t> due = one.integers();
+  due.insert(due.end(), other.integers().begin(), other.integers().end());
+  judge(both.size() == 2 && made.integers() == due && made.next_free() == other.next_free() && made.original() == 8, "two constraints");
+  const std::string text = "* #variable= 8 #constraint= 2\n+1 x1 +1 ~x2 +1 x3 <= 1 ;\n+2 x4 +3 x5 -4 ~x6 = 1 ;\n";
+  judge(pbcnf::derive_constraints(both, 9) == pbcnf::derive(text), "their derivation");
+  both.add({pbcnf::Number(0, 1ull << 40)}, {1}, pbcnf::Relation::at_least, 1);
+  judge(refuses([&] { pbcnf::constraints(both, 9); }, PBCNF_LIMIT, "pbcnf: constraint 3: limit weight"), "the one to blame");
+  bool is_refused = false;
+  try {
+    both.add({1, 2}, {1}, pbcnf::Relation::at_least, 1);
+  } catch (const std::invalid_argument &) {
+    is_refused = true;
+  }
+  judge(is_refused && both.size() == 3, "a literal without a coefficient");
+}
+
 void try_refusals() {
   judge(refuses([] { pbcnf::encode("+1 x1 >= ;"); }, PBCNF_REFUSED, "pbcnf: OPB 1:10: expected an integer"), "a place");
   pbcnf::Options none;
@@ -120,6 +143,7 @@ int main() {
   try_models();
   try_judgements();
   try_constraints();
+  try_many();
   try_refusals();
   std::printf("%d passed, %d failed\n", passes, failures);
   return failures > 0;

@@ -9,6 +9,7 @@ import copy
 import doctest
 import os
 import pickle
+import random
 import subprocess
 import sys
 import unittest
@@ -84,6 +85,25 @@ class Encodings(unittest.TestCase):
             self.assertEqual((encoding.integers.tolist(), rows, text), (integers, copied, due))
         self.assertEqual(len({tuple(integers) for _, integers, *_ in made}), len(made))
 
+    def test_many_constraints(self):
+        draws = random.Random(5)
+        relations = (">=", "<=", "=")
+        for count in (0, 1, 2, 40):
+            asked = []
+            for _ in range(count):
+                terms = [(draws.randint(-9, 9) << draws.choice((0, 0, 0, 70)), draws.choice((1, -1)) * draws.randint(1, 9)) for _ in range(draws.randint(0, 6))]
+                asked.append((terms, draws.choice(relations), draws.randint(-9, 9)))
+            chosen = {"equal": draws.choice(("split", "joint")), "budget": 1000}
+            whole, first, clauses = pbcnf.constraints(asked, first=10, **chosen), 10, []
+            for terms, relation, right in asked:
+                one = pbcnf.constraint(terms, relation, right, first=first, **chosen)
+                first, clauses = one.next_free, clauses + list(one)
+            self.assertEqual((whole.clauses, whole.original, whole.next_free), (clauses, 9, first))
+            text = "* #variable= 9 #constraint= %d\n" % count
+            for terms, relation, right in asked:
+                text += "%s %s %d ;\n" % (" ".join("%+d %sx%d" % (c, "~" * (l < 0), abs(l)) for c, l in terms), relation, right)
+            self.assertEqual(pbcnf.derive_constraints(asked, first=10, **chosen), pbcnf.derive(text, **chosen))
+
     def test_one_constraint(self):
         one = pbcnf.constraint([(1, 1), (1, -2), (1, 3)], "<=", 1, first=10)
         self.assertEqual((one.clauses, one.original, one.next_free), ([[-1, 2], [-1, -3], [2, -3]], 9, 10))
@@ -140,6 +160,18 @@ class Faults(unittest.TestCase):
         with self.assertRaises(kind) as caught:
             call(*given, **chosen)
         return caught.exception
+
+    def test_the_constraint_to_blame(self):
+        good, bad = ([(2, 1), (3, -2)], ">=", 3), ([(1, 1), (1, 7)], "<=", 1)
+        self.assertEqual(str(self.raised(pbcnf.Usage, pbcnf.constraints, [good, good, bad], first=7)),
+                         "pbcnf: usage: the literal of term 2 of constraint 3 is 7, and not of a variable from 1 to 6")
+        self.assertEqual(str(self.raised(pbcnf.Usage, pbcnf.constraints, [good, ([], "<", 1)], first=7)),
+                         "pbcnf: usage: the relation of constraint 2 is '<', and not one of >=, <= and =")
+        error = self.raised(pbcnf.LimitPassed, pbcnf.constraints, [good, ([(2**101, 1)], ">=", 1), good], first=7)
+        self.assertEqual((error.limit, error.constraint, error.line, str(error)), ("weight", 2, None, "pbcnf: constraint 2: limit weight"))
+        self.assertEqual(pickle.loads(pickle.dumps(error)).constraint, 2)
+        for first, chosen in ((0, {}), (7, {"budget": 0})):
+            self.raised(pbcnf.Usage, pbcnf.constraints, [good], first=first, **chosen)
 
     def test_places(self):
         error = self.raised(pbcnf.Refused, pbcnf.encode, "+1 x1 >= ;")

@@ -48,6 +48,14 @@ POSED_NULL(wcnf, uint8_t)
 ONE_NULL(constraint, int32_t)
 ONE_NULL(constraint_derive, uint8_t)
 
+#define ALL_NULL(name, type) \
+  static void null_##name(struct answer *a) { \
+    a->status = pbcnf_##name((const uint64_t *)empty(), 0, (const int32_t *)empty(), 0, (const pbcnf_sum *)empty(), 0, 1, &options, \
+                             (type *)empty(), 0, &a->size, &a->refusal); \
+  }
+ALL_NULL(constraints, int32_t)
+ALL_NULL(constraints_derive, uint8_t)
+
 #define TEXT (const uint8_t *)empty(), 0
 
 static void null_decode(struct answer *a) {
@@ -73,6 +81,8 @@ int main(void) {
   try_call("refute", null_refute);
   try_call("constraint", null_constraint);
   try_call("constraint_derive", null_constraint_derive);
+  try_call("constraints", null_constraints);
+  try_call("constraints_derive", null_constraints_derive);
   try_call("words", null_words);
   return conclude();
 }

@@ -20,7 +20,7 @@ from __future__ import annotations
 from typing import TYPE_CHECKING, Dict, Iterable, List, Literal, Optional, Tuple, TypedDict, Union
 
 from pbcnf import _calling
-from pbcnf._arguments import Posed, bound_of, model_of, posed, posed_one, text_of
+from pbcnf._arguments import Posed, bound_of, model_of, posed, posed_all, posed_one, text_of
 from pbcnf.errors import (Error, LimitPassed, NoLibrary, NoModel, NotASolution, NotRefuted, OutOfMemory, Refused, Rejected, Usage)
 from pbcnf.results import Clauses, Encoding, Solution
 
@@ -31,8 +31,8 @@ if TYPE_CHECKING:
 
 __all__ = [
     "Chosen", "Clauses", "Encoding", "Error", "LimitPassed", "NoLibrary", "NoModel", "NotASolution", "NotRefuted", "OutOfMemory",
-    "Refused", "Rejected", "Relation", "Solution", "Usage", "bounds", "check", "constraint", "decode", "derive", "derive_constraint",
-    "dimacs", "encode", "names", "refute", "wcnf",
+    "Refused", "Rejected", "Relation", "Solution", "Usage", "bounds", "check", "constraint", "constraints", "decode", "derive",
+    "derive_constraint", "derive_constraints", "dimacs", "encode", "names", "refute", "wcnf",
 ]
 
 __version__ = "0.3.0"
@@ -178,3 +178,25 @@ def derive_constraint(terms: Terms, relation: Relation, right: int, *, first: in
     """The derivation of these clauses, beside the problem of this one constraint over the variables below `first`."""
     asked = posed_one(terms, relation, right, first, chosen)
     return _calling.put_text("pbcnf_constraint_derive", asked, 512 * asked.amount + 4096)
+
+
+# --- Many constraints in one call
+
+
+def constraints(asked: Iterable[Tuple[Terms, Relation, int]], *, first: int, **chosen: Unpack[Chosen]) -> Encoding:
+    """The clauses of many constraints, one behind another, with their fresh variables from `first` on: what `constraint` makes of each
+    with the first variable that is still free, in one call of the library.
+
+    Each is a tuple of its terms, its relation and its right side. Where one is to blame, the error tells its number.
+
+    >>> pbcnf.constraints([([(1, 1), (1, 2), (1, 3)], "<=", 1), ([(2, 1), (1, -2)], ">=", 2)], first=4).clauses
+    [[-1, -2], [-1, -3], [-2, -3], [1]]
+    """
+    given = posed_all(asked, first, chosen)
+    return _calling.put_clauses("pbcnf_constraints", given, 32 * given.amount + 256)
+
+
+def derive_constraints(asked: Iterable[Tuple[Terms, Relation, int]], *, first: int, **chosen: Unpack[Chosen]) -> str:
+    """The derivation of these clauses, beside the problem of these constraints over the variables below `first`."""
+    given = posed_all(asked, first, chosen)
+    return _calling.put_text("pbcnf_constraints_derive", given, 512 * given.amount + 4096)

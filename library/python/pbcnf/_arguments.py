@@ -6,9 +6,9 @@ import ctypes
 from array import array
 from collections.abc import Mapping as Mappings
 from operator import index
-from typing import Any, Callable, Dict, Iterable, List, Mapping, NamedTuple, Optional, Tuple
+from typing import Any, Callable, Dict, Iterable, List, Mapping, NamedTuple, Optional, Tuple, Union
 
-from pbcnf._native import Bound, Options, Side
+from pbcnf._native import SUM, Bound, Options, Side
 from pbcnf.errors import Usage
 
 WORDS: Dict[str, Tuple[str, ...]] = {
@@ -106,7 +106,7 @@ def _words(value: int, what: str) -> Tuple[int, int]:
     return value & ((1 << 64) - 1), (value >> 64) & ((1 << 64) - 1)
 
 
-# --- A whole problem, and one constraint
+# --- A whole problem, one constraint, and many
 
 
 class Posed(NamedTuple):
@@ -142,6 +142,23 @@ def posed_one(terms: Iterable[Tuple[int, int]], relation: str, right: int, first
     return Posed(given, len(pairs), lambda: _usage_of_one([index(literal) for _, literal in pairs], index(first), chosen))
 
 
+def posed_all(constraints: Iterable[Tuple[Iterable[Tuple[int, int]], str, int]], first: int, chosen: Mapping[str, Any]) -> Posed:
+    coefficients: List[int] = []
+    literals: List[int] = []
+    sums: List[bytes] = []
+    for terms, relation, right in constraints:
+        before = len(literals)
+        for coefficient, literal in terms:
+            coefficients.append(coefficient)
+            literals.append(literal)
+        if relation not in RELATIONS:
+            raise usage("the relation of constraint %d is %r, and not one of >=, <= and =" % (len(sums) + 1, relation))
+        sums.append(SUM.pack(RELATIONS[relation], 0, len(literals) - before, *_words(index(right), "the right side")))
+    words, numbers = _coefficients(coefficients), _literals(literals)
+    given = [_Block(words), len(words), _Block(numbers), len(numbers), b"".join(sums), len(sums), _within(index(first)), options_of(chosen)]
+    return Posed(given, len(literals), lambda: _usage_of_all(sums, [index(literal) for literal in literals], index(first), chosen))
+
+
 def _coefficients(values: List[int]) -> array[int]:
     """A word for each, if one is enough, else two."""
     try:
@@ -166,9 +183,31 @@ def _usage_of(chosen: Mapping[str, Any]) -> Usage:
 
 
 def _usage_of_one(literals: List[int], first: int, chosen: Mapping[str, Any]) -> Usage:
+    number = _mistaken(literals, first, chosen)
+    return number if isinstance(number, Usage) else _usage_of_term("term %d" % (number + 1), literals[number], first)
+
+
+def _usage_of_all(sums: List[bytes], literals: List[int], first: int, chosen: Mapping[str, Any]) -> Usage:
+    number = _mistaken(literals, first, chosen)
+    if isinstance(number, Usage):
+        return number
+    term = number
+    for constraint, packed in enumerate(sums, 1):
+        terms = SUM.unpack(packed)[2]
+        if term < terms:
+            break
+        term -= terms
+    return _usage_of_term("term %d of constraint %d" % (term + 1, constraint), literals[number], first)
+
+
+def _mistaken(literals: List[int], first: int, chosen: Mapping[str, Any]) -> Union[int, Usage]:
+    """The place of the first literal that is none, unless something else is out of its range."""
     if not 1 <= index(chosen.get("budget", _BUDGET)) <= _MOST_BUDGET:
         return _usage_of(chosen)
     if not 1 <= first <= _MOST_FIRST:
         return usage("the first fresh variable is %d, and not from 1 to %d" % (first, _MOST_FIRST))
-    number, literal = next((number, literal) for number, literal in enumerate(literals, 1) if not 1 <= abs(literal) < first)
-    return usage("the literal of term %d is %d, and not of a variable from 1 to %d" % (number, literal, first - 1))
+    return next(number for number, literal in enumerate(literals) if not 1 <= abs(literal) < first)
+
+
+def _usage_of_term(term: str, literal: int, first: int) -> Usage:
+    return usage("the literal of %s is %d, and not of a variable from 1 to %d" % (term, literal, first - 1))

@@ -6,12 +6,15 @@ import ctypes
 import functools
 import os
 import platform
+import struct
 import sys
 from typing import Dict, List
 
 from pbcnf.errors import NoLibrary
 
 DONE, NO_ROOM = 0, 5
+# What stands beside the terms of a sum: the relation, 0, how many terms it has, and the words of the right side.
+SUM = struct.Struct("=IIQQQ")
 # Which structs and numbers are those below, as PBCNF_ABI of the header.
 ABI = 1
 _NAME = "libpbcnf.so.0"
@@ -51,6 +54,7 @@ def _signatures() -> Dict[str, List[object]]:
     room = block
     posed = [*text, pointer(Options), bound]
     posed_one = [*block, *block, pointer(Side), pointer(Options)]
+    posed_all = [*block, *block, *text, ctypes.c_uint32, pointer(Options)]
     sized = [pointer(Size), refusal]
     return {
         "pbcnf_encode": posed + room + sized,
@@ -64,6 +68,8 @@ def _signatures() -> Dict[str, List[object]]:
         "pbcnf_map": [*text, *room, length, refusal],
         "pbcnf_constraint": posed_one + room + sized,
         "pbcnf_constraint_derive": posed_one + room + sized,
+        "pbcnf_constraints": posed_all + room + sized,
+        "pbcnf_constraints_derive": posed_all + room + sized,
         "pbcnf_words": [refusal, *room, length],
     }
 

@@ -53,10 +53,12 @@ class LimitPassed(Error):
 
     limit: which, `text`, `statements`, `terms`, `weight`, `bounds`, `variables`, `clauses`, `line`, `lines`, `number` or `name`.
     file, line, column: the place that is to blame, if one is.
+    constraint: which of many is to blame, from 1, if one is.
     """
 
     status = 3
     limit: str = ""
+    constraint: Optional[int] = None
     file: Optional[str] = None
     line: Optional[int] = None
     column: Optional[int] = None
@@ -65,6 +67,7 @@ class LimitPassed(Error):
         self.limit = str(self).rpartition(": limit ")[2]
         self.file = FILES[refusal.file] or None
         self.line, self.column = refusal.line or None, refusal.column or None
+        self.constraint = refusal.number or None
 
 
 class OutOfMemory(Error, MemoryError):

@@ -60,6 +60,16 @@ pub struct Side {
     pub right_high: u64,
 }
 
+#[repr(C)]
+#[derive(Clone, Copy, Debug)]
+pub struct Sum {
+    pub relation: u32,
+    pub unused: u32,
+    pub terms: u64,
+    pub right_low: u64,
+    pub right_high: u64,
+}
+
 /// Which structs and numbers are these, as PBCNF_ABI of the header.
 pub const ABI: u32 = 1;
 
@@ -87,5 +97,11 @@ extern "C" {
         side: *const Side, options: *const Options, integers: *mut i32, room: usize, size: *mut Size, refusal: *mut Refusal) -> u8;
     pub fn pbcnf_constraint_derive(coefficients: *const u64, coefficient_words: usize, literals: *const i32, count: usize,
         side: *const Side, options: *const Options, proof: *mut u8, room: usize, size: *mut Size, refusal: *mut Refusal) -> u8;
+    pub fn pbcnf_constraints(coefficients: *const u64, coefficient_words: usize, literals: *const i32, count: usize,
+        sums: *const Sum, constraints: usize, first: u32, options: *const Options,
+        integers: *mut i32, room: usize, size: *mut Size, refusal: *mut Refusal) -> u8;
+    pub fn pbcnf_constraints_derive(coefficients: *const u64, coefficient_words: usize, literals: *const i32, count: usize,
+        sums: *const Sum, constraints: usize, first: u32, options: *const Options,
+        proof: *mut u8, room: usize, size: *mut Size, refusal: *mut Refusal) -> u8;
     pub fn pbcnf_words(refusal: *const Refusal, said: *mut u8, room: usize, length: *mut u64) -> u8;
 }

@@ -23,6 +23,12 @@ pub fn mistaken_budget(options: &Options) -> Option<Mistake> {
     (!is_budget).then_some(Mistake::Budget(options.budget))
 }
 
+/// The first fresh variable that the library has refused, if it is that.
+pub fn mistaken_first(first: u32) -> Option<Mistake> {
+    let is_first = (1..=1 << 31).contains(&first);
+    (!is_first).then_some(Mistake::First(first))
+}
+
 /// Refuses a library whose calls have other structs or numbers: it was linked by mistake.
 pub fn judge_library() {
     // SAFETY: it asks for nothing.

@@ -1,6 +1,7 @@
 //! One constraint at a time: nothing is kept from call to call but the first variable that is still free.
 use crate::c;
-use crate::calling::{fill, mistaken_budget, text, words};
+use crate::calling::{fill, mistaken_budget, mistaken_first, text, words};
+use crate::constraints::Constraints;
 use crate::error::{Error, Mistake};
 use crate::lit::Lit;
 use crate::options::Options;
@@ -63,7 +64,6 @@ impl Asked<'_> {
     /// The number that the library has refused.
     fn mistake(&self) -> Option<Mistake> {
         let first = self.first;
-        let is_first = (1..=1 << 31).contains(&first);
         let literal = |(term, &(_, literal)): (usize, &(i128, Lit))| {
             (literal.var() >= first).then_some(Mistake::Literal {
                 term,
@@ -72,22 +72,25 @@ impl Asked<'_> {
             })
         };
         mistaken_budget(self.options)
-            .or((!is_first).then_some(Mistake::First(first)))
+            .or_else(|| mistaken_first(first))
             .or_else(|| self.constraint.terms.iter().enumerate().find_map(literal))
     }
 }
 
 /// The terms of a constraint, as the library takes them.
 #[derive(Clone, Default, Debug)]
-struct Columns {
-    coefficients: Vec<u64>,
-    literals: Vec<i32>,
+pub(crate) struct Columns {
+    pub(crate) coefficients: Vec<u64>,
+    pub(crate) literals: Vec<i32>,
 }
 
 impl Columns {
-    fn take(&mut self, terms: &[(i128, Lit)]) {
+    pub(crate) fn clear(&mut self) {
         self.coefficients.clear();
         self.literals.clear();
+    }
+
+    pub(crate) fn extend(&mut self, terms: &[(i128, Lit)]) {
         for &(coefficient, literal) in terms {
             let (low, high) = words(coefficient);
             self.coefficients.extend([low, high]);
@@ -104,7 +107,8 @@ fn put<T: Clone + Default>(
     room: usize,
     put: &mut Vec<T>,
 ) -> Result<c::Size, Error> {
-    columns.take(asked.constraint.terms);
+    columns.clear();
+    columns.extend(asked.constraint.terms);
     let (side, options, mut size) = (asked.side(), asked.options.numbers(), c::Size::default());
     fill(
         put,
@@ -184,6 +188,16 @@ impl Encoder {
             room,
             &mut self.room,
         )?;
+        Ok(Encoding::new(&self.room[..size.length as usize], size))
+    }
+
+    /// The clauses of many constraints, one behind another, with their fresh variables from `first` on.
+    pub fn constraints(
+        &mut self,
+        constraints: &Constraints,
+        first: u32,
+    ) -> Result<Encoding<&[i32]>, Error> {
+        let size = constraints.fill(first, &self.options, &mut self.room)?;
         Ok(Encoding::new(&self.room[..size.length as usize], size))
     }
 }

@@ -31,6 +31,17 @@ pub enum Mistake {
         /// The first fresh variable.
         first: u32,
     },
+    /// The literal of this term of one of many constraints, both counted from 0, is not of a variable below the first fresh one.
+    LiteralOf {
+        /// Which constraint.
+        constraint: usize,
+        /// Which of its terms.
+        term: usize,
+        /// Its literal.
+        literal: Lit,
+        /// The first fresh variable.
+        first: u32,
+    },
 }
 
 impl fmt::Display for Mistake {
@@ -54,6 +65,18 @@ impl fmt::Display for Mistake {
                 f,
                 "the literal of term {} is {literal}, and not of a variable from 1 to {}",
                 term + 1,
+                first - 1
+            ),
+            Mistake::LiteralOf {
+                constraint,
+                term,
+                literal,
+                first,
+            } => write!(
+                f,
+                "the literal of term {} of constraint {} is {literal}, and not of a variable from 1 to {}",
+                term + 1,
+                constraint + 1,
                 first - 1
             ),
         }
@@ -120,6 +143,7 @@ pub enum Kind {
 pub struct Error {
     kind: Kind,
     status: u8,
+    constraint: Option<usize>,
     words: String,
 }
 
@@ -142,6 +166,11 @@ impl Error {
         self.status
     }
 
+    /// Which of many constraints is to blame for a limit, counted from 0, if one is.
+    pub fn constraint(&self) -> Option<usize> {
+        self.constraint
+    }
+
     /// The error that a refusal tells. Which mistake a usage is, the caller looks for.
     pub(crate) fn of(refusal: &c::Refusal, mistake: impl FnOnce() -> Option<Mistake>) -> Error {
         let told = match refusal.status {
@@ -156,8 +185,17 @@ impl Error {
         Error {
             kind,
             status: refusal.status as u8,
+            constraint: constraint_of(refusal),
             words,
         }
+    }
+}
+
+/// The constraint to blame, which a refusal counts from 1.
+fn constraint_of(refusal: &c::Refusal) -> Option<usize> {
+    match refusal.status {
+        2 | 3 => (refusal.number as usize).checked_sub(1),
+        _ => None,
     }
 }
 

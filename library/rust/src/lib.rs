@@ -16,6 +16,7 @@
 mod c;
 mod calling;
 mod constraint;
+mod constraints;
 mod error;
 mod lit;
 mod numbers;
@@ -23,6 +24,7 @@ mod options;
 mod results;
 
 pub use constraint::{constraint, derive_constraint, Constraint, Encoder, Relation};
+pub use constraints::Constraints;
 pub use error::{Error, Kind, Mistake, Place};
 pub use lit::{lit, Lit, NoLiteral};
 pub use numbers::{Denied, Expected, File, Limit, Unproved};

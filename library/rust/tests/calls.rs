@@ -1,7 +1,7 @@
 //! Each call once.
 use pbcnf::{
-    lit, Constraint, Denied, Encoder, Encoding, Equal, Expected, File, General, Kind, Limit, Lit,
-    Mistake, Options, Place, Relation, Unproved,
+    lit, Constraint, Constraints, Denied, Encoder, Encoding, Equal, Expected, File, General, Kind,
+    Limit, Lit, Mistake, Options, Place, Relation, Unproved,
 };
 
 const OPB: &[u8] = b"min: +3 rain -2 sun ;\n+2 rain +1 sun +1 x1 x2 >= 2 ;\n+1 rain +1 x1 = 1 ;\n";
@@ -231,4 +231,60 @@ fn one_constraint() {
     };
     let encoding = pbcnf::constraint(high, 4, &Options::new()).unwrap();
     assert_eq!(encoding.clauses().next(), Some(&[][..]));
+}
+
+#[test]
+fn many_constraints() {
+    let options = Options::new();
+    let first_terms = [(1, lit(1)), (1, !lit(2)), (1, lit(3))];
+    let second_terms = [(2, lit(4)), (3, lit(5)), (-4, !lit(6))];
+    let first = Constraint {
+        terms: &first_terms,
+        relation: Relation::AtMost,
+        right: 1,
+    };
+    let second = Constraint {
+        terms: &second_terms,
+        relation: Relation::Equal,
+        right: 1,
+    };
+    let mut both = Constraints::new();
+    assert!(both.is_empty() && both.encode(9, &options).unwrap().integers().is_empty());
+    both.extend([first, second]);
+    assert_eq!(both.len(), 2);
+    let made = both.encode(9, &options).unwrap();
+    let one = pbcnf::constraint(first, 9, &options).unwrap();
+    let other = pbcnf::constraint(second, one.next_free(), &options).unwrap();
+    assert_eq!(made.integers(), [one.integers(), other.integers()].concat());
+    assert_eq!((made.original(), made.next_free()), (8, other.next_free()));
+    let mut encoder = Encoder::new(options);
+    let lent = encoder.constraints(&both, 9).unwrap();
+    assert_eq!(lent.integers(), made.integers());
+    let text =
+        b"* #variable= 8 #constraint= 2\n+1 x1 +1 ~x2 +1 x3 <= 1 ;\n+2 x4 +3 x5 -4 ~x6 = 1 ;\n";
+    let derived = pbcnf::derive(text, None, &options).unwrap();
+    assert_eq!(both.derive(9, &options).unwrap(), derived);
+    let low = both.encode(5, &options).unwrap_err();
+    let mistake = Mistake::LiteralOf {
+        constraint: 1,
+        term: 1,
+        literal: lit(5),
+        first: 5,
+    };
+    assert_eq!(low.kind(), Kind::Usage(mistake));
+    assert_eq!(
+        low.to_string(),
+        "pbcnf: usage: the literal of term 2 of constraint 2 is 5, and not of a variable from 1 to 4"
+    );
+    let heavy = [(1 << 101, lit(1))];
+    both.push(Constraint {
+        terms: &heavy,
+        relation: Relation::AtLeast,
+        right: 1,
+    });
+    let refused = both.encode(9, &options).unwrap_err();
+    assert_eq!(refused.constraint(), Some(2));
+    assert_eq!(refused.to_string(), "pbcnf: constraint 3: limit weight");
+    both.clear();
+    assert!(both.is_empty());
 }
