@@ -9,11 +9,11 @@ ghost use Rattle.pbcnf_c.specs.Rooms.{Ends};
 ghost use Rattle.pbcnf_c.specs.Sizes.{no_size};
 
 use crate::integers::integer_of;
-use pb_columns::halves;
 use crate::options::{PbcnfBound, PbcnfOptions};
 use crate::ready::{Ready, prepare};
 use crate::size::{Ending, delivered, stopped};
 use pb_base::{Lit, NoMemory};
+use pb_columns::halves;
 use pb_encode::bound_rows;
 use pb_suite::Outcome;
 use std::alloc::{AllocError, Global};

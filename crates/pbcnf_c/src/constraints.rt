@@ -51,11 +51,7 @@ fn blame_of(fault: ColumnFault) -> Blame
 }
 
 // Sizes up the encoding of constraints.
-fn prepare_all(
-    alloc: Global,
-    columns: &Columns<'_>,
-    chosen: &PbcnfOptions,
-) -> Result<Ready, Blame>
+fn prepare_all(alloc: Global, columns: &Columns<'_>, chosen: &PbcnfOptions) -> Result<Ready, Blame>
     ensures ready { IfOk result IsReady }
     ensures of { IfOk result (IsReadyOf chosen.now (columns_at columns.now.words.now columns.now.literals.now columns.now.sums.now columns.now.first)) }
     ensures stopped { IfErr result (λ b. StopsConstraints chosen.now (columns_at columns.now.words.now columns.now.literals.now columns.now.sums.now columns.now.first) b.at b.outcome) }
@@ -70,11 +66,7 @@ fn prepare_all(
         Ok(statements) => statements,
         Err(fault) => return Err(blame_of(fault)),
     };
-    match size_up(
-        alloc,
-        problem_of(alloc, columns.first, statements),
-        options,
-    ) {
+    match size_up(alloc, problem_of(alloc, columns.first, statements), options) {
         Ok(ready) => Ok(ready),
         Err(outcome) => Err(Blame { outcome, at: 0 }),
     }

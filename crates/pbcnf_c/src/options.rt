@@ -3,8 +3,8 @@ ghost use Rattle.std.specs.Prelude.{◌≡◌};
 ghost use Rattle.pb_base.specs.Budgets.{IsBudget};
 ghost use Rattle.pbcnf_c.specs.Choices.{amo_of, bound_of, card_of, equal_of, general_of, options_at, options_of, table_of};
 
-use pb_columns::wide;
 use pb_base::{Amo, Card, EqualMode, General, MAX_BUDGET, Options};
+use pb_columns::wide;
 
 /// What is chosen of an encoding. All numbers 0 but a budget of 50,000 are what stands where nothing is chosen.
 #[repr(C)]

@@ -78,10 +78,16 @@ impl fmt::Display for Told {
         let at = self.at;
         match &self.outcome {
             Outcome::Usage => {
-                write!(f, "{}a number is out of its range", Culprit { at, all: "usage" })
+                write!(
+                    f,
+                    "{}a number is out of its range",
+                    Culprit { at, all: "usage" }
+                )
             }
             Outcome::Limit {
-                file: None, which, ..
+                file: None,
+                which,
+                ..
             } => write!(f, "{}limit {which}", Culprit { at, all: "totals" }),
             Outcome::WriteFault => f.write_str("pbcnf: the room is too small"),
             outcome => write!(f, "{outcome}"),
