@@ -2,8 +2,8 @@
 . "$top/tests/lib.sh"
 
 solvers='cadical kissat cryptominisat5 clasp picosat glucose minisat'
-# No page has pip fetch anything.
-export PIP_NO_INDEX=1 PIP_DISABLE_PIP_VERSION_CHECK=1 PYTHONDONTWRITEBYTECODE=1
+# No page has pip fetch anything, and the commands over solvers run the program that is tested, and build none.
+export PIP_NO_INDEX=1 PIP_DISABLE_PIP_VERSION_CHECK=1 PYTHONDONTWRITEBYTECODE=1 PBCNF=$pbcnf
 
 # The tools that a block of commands names and that are not there.
 missing() {
