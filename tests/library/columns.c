@@ -108,7 +108,7 @@ static void try_accepted(const struct columns *c, const struct answer *a, long w
 }
 
 static void try_drawn(void) {
-  for (long where = 0; where < 400; where++) {
+  for (long where = 0; where < 2000; where++) {
     const struct columns c = drawn(draw(MOST + 1));
     struct answer a = spoiled(), exact = spoiled(), scant = spoiled();
     pbcnf_size all;
