@@ -160,6 +160,7 @@ class Mistakes(unittest.TestCase):
 
 def load_tests(loader, tests, pattern):
     tests.addTests(doctest.DocTestSuite(pbcnf.model))
+    tests.addTests(doctest.DocTestSuite(pbcnf.expressions, extraglobs={"Model": pbcnf.model.Model}))
     return tests
 
 

@@ -232,7 +232,8 @@ class Threads(unittest.TestCase):
 
 
 def load_tests(loader, tests, pattern):
-    tests.addTests(doctest.DocTestSuite(pbcnf, extraglobs={"pbcnf": pbcnf}))
+    for module in (pbcnf, pbcnf.errors, pbcnf.results):
+        tests.addTests(doctest.DocTestSuite(module, extraglobs={"pbcnf": pbcnf}))
     return tests
 
 

@@ -208,7 +208,7 @@ class Optima(unittest.TestCase):
 
 
 def load_tests(loader, tests, pattern):
-    for module in (pbcnf.pysat.card, pbcnf.pysat.pb):
+    for module in (pbcnf.pysat.card, pbcnf.pysat.formula, pbcnf.pysat.pb):
         tests.addTests(doctest.DocTestSuite(module))
     return tests
 

@@ -79,13 +79,27 @@ def encode(opb: Text, *, at_most: Optional[int] = None, table: bool = False, **c
 
 
 def dimacs(opb: Text, *, at_most: Optional[int] = None, table: bool = False, **chosen: Unpack[Chosen]) -> str:
-    """The same clauses as a CNF text, the one that the program writes."""
+    """The same clauses as a CNF text, the one that the program writes.
+
+    >>> print(pbcnf.dimacs("+2 x1 +1 x2 +1 x3 >= 3 ;"), end="")
+    p cnf 3 2
+    1 0
+    2 3 0
+    """
     asked = posed(opb, at_most, chosen, table)
     return _calling.put_text("pbcnf_encode", asked, 4 * asked.amount + 4096)
 
 
 def derive(opb: Text, *, at_most: Optional[int] = None, table: bool = False, **chosen: Unpack[Chosen]) -> str:
-    """The derivation of the same clauses, which `check` accepts."""
+    """The derivation of the same clauses, which `check` accepts.
+
+    >>> print(pbcnf.derive("+1 x1 +1 x2 >= 1 ;"), end="")
+    pseudo-Boolean derivation profile 1
+    f 1
+    rup +1 x1 +1 x2 >= 1 ; 1
+    out 2
+    end
+    """
     asked = posed(opb, at_most, chosen, table)
     return _calling.put_text("pbcnf_derive", asked, 16 * asked.amount + 4096)
 
@@ -101,7 +115,14 @@ def bounds(opb: Text, *, at_most: Optional[int] = None, **chosen: Unpack[Chosen]
 
 
 def wcnf(opb: Text, *, at_most: Optional[int] = None, **chosen: Unpack[Chosen]) -> str:
-    """The weighted CNF of a problem and its objective, the text that the program's `wcnf` writes."""
+    """The weighted CNF of a problem and its objective, the text that the program's `wcnf` writes.
+
+    >>> print(pbcnf.wcnf("min: +3 x1 -2 x2 ;\\n+1 x1 +1 x2 >= 1 ;"), end="")
+    c offset -2
+    h 1 2 0
+    3 -1 0
+    2 2 0
+    """
     asked = posed(opb, at_most, chosen)
     return _calling.put_text("pbcnf_wcnf", asked, 5 * asked.amount + 4096)
 
@@ -115,13 +136,24 @@ def _judge(name: str, opb: Text, at_most: Optional[int], *texts: Text) -> None:
 
 
 def check(opb: Text, cnf: Text, proof: Text, *, at_most: Optional[int] = None) -> None:
-    """Comes back if a derivation shows that each solution of a problem is the front of a model of a CNF, else raises why not."""
+    """Comes back if a derivation shows that each solution of a problem is the front of a model of a CNF, else raises why not.
+
+    >>> opb = "+1 x1 +1 x2 >= 1 ;"
+    >>> pbcnf.check(opb, pbcnf.dimacs(opb), pbcnf.derive(opb))
+    >>> pbcnf.check(opb, "p cnf 2 1\\n1 0\\n", pbcnf.derive(opb))
+    Traceback (most recent call last):
+    pbcnf.errors.Rejected: pbcnf: PROOF line 4: not implied by 2
+    """
     _judge("pbcnf_check", opb, at_most, cnf, proof)
 
 
 def refute(opb: Text, cnf: Text, proof: Text, lrat: Text, *, at_most: Optional[int] = None) -> None:
     """Comes back if these show that a problem has no solution, else raises why not: the derivation as `check`, and the
-    refutation, in the LRAT format, of the CNF."""
+    refutation, in the LRAT format, of the CNF.
+
+    >>> opb = "+1 x1 >= 1 ;\\n+1 ~x1 >= 1 ;"
+    >>> pbcnf.refute(opb, pbcnf.dimacs(opb), pbcnf.derive(opb), "3 0 1 2 0\\n")
+    """
     _judge("pbcnf_refute", opb, at_most, cnf, proof, lrat)
 
 
@@ -175,7 +207,11 @@ def constraint(terms: Terms, relation: Relation, right: int, *, first: int, **ch
 
 
 def derive_constraint(terms: Terms, relation: Relation, right: int, *, first: int, **chosen: Unpack[Chosen]) -> str:
-    """The derivation of these clauses, beside the problem of this one constraint over the variables below `first`."""
+    """The derivation of these clauses, beside the problem of this one constraint over the variables below `first`.
+
+    >>> pbcnf.derive_constraint([(1, 1), (1, 2)], ">=", 1, first=3) == pbcnf.derive("+1 x1 +1 x2 >= 1 ;")
+    True
+    """
     asked = posed_one(terms, relation, right, first, chosen)
     return _calling.put_text("pbcnf_constraint_derive", asked, 512 * asked.amount + 4096)
 
@@ -197,6 +233,11 @@ def constraints(asked: Iterable[Tuple[Terms, Relation, int]], *, first: int, **c
 
 
 def derive_constraints(asked: Iterable[Tuple[Terms, Relation, int]], *, first: int, **chosen: Unpack[Chosen]) -> str:
-    """The derivation of these clauses, beside the problem of these constraints over the variables below `first`."""
+    """The derivation of these clauses, beside the problem of these constraints over the variables below `first`.
+
+    >>> asked = [([(1, 1), (1, 2)], ">=", 1), ([(1, 1), (1, 2)], "<=", 1)]
+    >>> pbcnf.derive_constraints(asked, first=3) == pbcnf.derive("+1 x1 +1 x2 >= 1 ;\\n+1 x1 +1 x2 <= 1 ;")
+    True
+    """
     given = posed_all(asked, first, chosen)
     return _calling.put_text("pbcnf_constraints_derive", given, 512 * given.amount + 4096)

@@ -28,6 +28,12 @@ class Refused(Error):
     file: which text, `OPB`, `CNF`, `PROOF`, `MODEL` or `LRAT`.
     line, column: from 1, columns in bytes.
     expected: what the grammar allows there.
+
+    >>> try:
+    ...     pbcnf.encode("+1 x1 >= ;")
+    ... except pbcnf.Refused as error:
+    ...     print(error.file, error.line, error.column, error.expected)
+    OPB 1 10 an integer
     """
 
     status = 1
@@ -43,7 +49,12 @@ class Refused(Error):
 
 
 class Usage(Error, ValueError):
-    """What was passed chooses nothing: an option, a relation, the first fresh variable or a literal. The words say which."""
+    """What was passed chooses nothing: an option, a relation, the first fresh variable or a literal. The words say which.
+
+    >>> pbcnf.encode("+1 x1 >= 1 ;", budget=0)
+    Traceback (most recent call last):
+    pbcnf.errors.Usage: pbcnf: usage: the budget is 0, and not from 1 to 10000000
+    """
 
     status = 2
 
@@ -54,6 +65,10 @@ class LimitPassed(Error):
     limit: which, `text`, `statements`, `terms`, `weight`, `bounds`, `variables`, `clauses`, `line`, `lines`, `number` or `name`.
     file, line, column: the place that is to blame, if one is.
     constraint: which of many is to blame, from 1, if one is.
+
+    >>> pbcnf.constraints([([(1, 1)], ">=", 1), ([(2**100, 1)], ">=", 1)], first=2)
+    Traceback (most recent call last):
+    pbcnf.errors.LimitPassed: pbcnf: constraint 2: limit weight
     """
 
     status = 3
@@ -96,6 +111,10 @@ class NotASolution(Error):
     """The values of the model violate a statement.
 
     statement: the first that they violate, from 1; a bound on the objective counts as the last.
+
+    >>> pbcnf.decode("+1 x1 >= 1 ;", [-1])
+    Traceback (most recent call last):
+    pbcnf.errors.NotASolution: pbcnf: statement 1 is violated
     """
 
     status = 8
@@ -106,7 +125,12 @@ class NotASolution(Error):
 
 
 class NoModel(Error):
-    """The solver does not say that there is a model."""
+    """The solver does not say that there is a model.
+
+    >>> pbcnf.decode("+1 x1 >= 1 ;", "s UNSATISFIABLE\\n")
+    Traceback (most recent call last):
+    pbcnf.errors.NoModel: pbcnf: no model
+    """
 
     status = 9
 

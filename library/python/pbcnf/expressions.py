@@ -11,7 +11,12 @@ if TYPE_CHECKING:
 
 class Sum:
     """A whole number that hangs on variables: literals with coefficients, and a constant. `+`, `-` and `*` by whole numbers make
-    sums, `<=`, `>=`, `==`, `<` and `>` constraints."""
+    sums, `<=`, `>=`, `==`, `<` and `>` constraints.
+
+    >>> x, y = Model().bools("x", 2)
+    >>> 3 * x - ~y + 2, x + y <= 1
+    (+3 x[0] -1 ~x[1] +2, +1 x[0] +1 x[1] <= 1)
+    """
 
     def __init__(self, terms: Tuple[Tuple[int, Literal], ...], constant: int = 0) -> None:
         self.terms, self.constant = terms, constant
@@ -66,7 +71,12 @@ class Sum:
 
 
 class Literal(Sum):
-    """A variable of a model, or its negation, `~` before it. As a number it is 1 if it is true, and 0 if it is false."""
+    """A variable of a model, or its negation, `~` before it. As a number it is 1 if it is true, and 0 if it is false.
+
+    >>> rain = Model().bool("rain")
+    >>> ~rain, ~~rain
+    (~rain, rain)
+    """
 
     def __init__(self, model: Model, number: int) -> None:
         super().__init__(((1, self),))
@@ -80,7 +90,12 @@ class Literal(Sum):
 
 
 class Constraint:
-    """That a sum is at least, at most or just 0, if all conditions are true."""
+    """That a sum is at least, at most or just 0, if all conditions are true.
+
+    >>> x, y = Model().bools("x", 2)
+    >>> (2 * x >= 1 + y).only_if(~y)
+    +2 x[0] -1 x[1] >= 1 if ~x[1]
+    """
 
     def __init__(self, left: Sum, relation: str, conditions: Tuple[Literal, ...] = ()) -> None:
         self.left, self.relation, self.conditions = left, relation, conditions
@@ -102,6 +117,10 @@ def _sum_of(value: object) -> Sum:
 
 
 def total(values: Iterable[Union[Sum, int]]) -> Sum:
-    """The sum of many, which takes less time than Python's `sum`."""
+    """The sum of many, which takes less time than Python's `sum`.
+
+    >>> total(Model().bools("x", 3)) == 2
+    +1 x[0] +1 x[1] +1 x[2] = 2
+    """
     sums = [_sum_of(value) for value in values]
     return Sum(tuple(term for value in sums for term in value.terms), sum(value.constant for value in sums))

@@ -39,6 +39,12 @@ class Answer:
     """A solution of a model, whose every statement was tested. `answer[sum]` is the value of a sum, 1 or 0 of a literal.
 
     objective: the value of the objective, if there is one.
+
+    >>> m = Model()
+    >>> x, y = m.bools("x", 2)
+    >>> answer = Answer([True, False], 3 * x + y)
+    >>> answer.objective, answer[x], answer[~y], answer[x + ~y]
+    (3, 1, 1, 2)
     """
 
     def __init__(self, values: Sequence[bool], objective: Optional[Sum]) -> None:
@@ -64,7 +70,11 @@ class Model:
         self._sign = 1
 
     def bool(self, name: str) -> Literal:
-        """A new variable. Its name begins with a letter or `_`, and has letters, digits and `_[]{}^-`; `x` and digits are none."""
+        """A new variable. Its name begins with a letter or `_`, and has letters, digits and `_[]{}^-`; `x` and digits are none.
+
+        >>> Model().bool("rain")
+        rain
+        """
         if not _NAME.fullmatch(name):
             raise ValueError("%r is no name of a variable" % name)
         if name in self._known:
@@ -74,7 +84,11 @@ class Model:
         return Literal(self, len(self.names))
 
     def bools(self, name: str, count: int) -> List[Literal]:
-        """New variables `name[0]`, `name[1]` and so on."""
+        """New variables `name[0]`, `name[1]` and so on.
+
+        >>> Model().bools("day", 2)
+        [day[0], day[1]]
+        """
         return [self.bool("%s[%d]" % (name, place)) for place in range(count)]
 
     def __iadd__(self, constraint: Union[Constraint, builtins.bool]) -> Model:
@@ -90,7 +104,13 @@ class Model:
         self._objective, self._sign = objective, 1
 
     def maximize(self, objective: Sum) -> None:
-        """The solution that is looked for has the greatest value of this sum."""
+        """The solution that is looked for has the greatest value of this sum.
+
+        >>> m = Model()
+        >>> m.maximize(2 * m.bool("rain"))
+        >>> print(m.opb(), end="")
+        min: -2 rain ;
+        """
         self._terms(objective)
         self._objective, self._sign = objective, -1
 
@@ -100,7 +120,13 @@ class Model:
 
     def encode(self, *, at_most: Optional[int] = None, **chosen: Unpack[Chosen]) -> Encoding:
         """The clauses of the problem, whose variables are those of the model, in the order in which they were made, and then fresh
-        ones. `at_most` is a bound on what is to be least."""
+        ones. `at_most` is a bound on what is to be least.
+
+        >>> m = Model()
+        >>> m += total(m.bools("x", 3)) <= 1
+        >>> m.encode().clauses
+        [[-1, -2], [-1, -3], [-2, -3]]
+        """
         return pbcnf.encode(self._numbered(), at_most=at_most, **chosen)
 
     def solve(self, solver: Any = "cadical", **chosen: Unpack[Chosen]) -> Optional[Answer]:
@@ -109,6 +135,14 @@ class Model:
 
         `solver` is a command that reads DIMACS from a file and prints `s` and `v` lines, as a name or a list of words, or an
         object with `add_clause` and `solve`, as PySAT's solvers and pycryptosat's are.
+
+        >>> import sys
+        >>> m = Model()
+        >>> rain, sun = m.bool("rain"), m.bool("sun")
+        >>> m += rain + sun == 1
+        >>> answer = m.solve([sys.executable, "-c", "print('s SATISFIABLE'); print('v 1 -2 0')"])
+        >>> answer[rain], answer[sun]
+        (1, 0)
         """
         text, best = self._numbered(), None
         search = command_search if isinstance(solver, (str, list, tuple)) else object_search

@@ -8,7 +8,12 @@ from typing import Dict, Iterator, List, Optional, Sequence, Union, overload
 
 
 class Clauses(Sequence[List[int]]):
-    """Clauses in order, each as a list of its literals, which is made when it is asked for. They equal a list of such lists."""
+    """Clauses in order, each as a list of its literals, which is made when it is asked for. They equal a list of such lists.
+
+    >>> clauses = pbcnf.encode("+2 x1 +1 x2 +1 x3 >= 3 ;").clauses
+    >>> len(clauses), clauses[-1], clauses == [[1], [2, 3]]
+    (2, [2, 3], True)
+    """
 
     def __init__(self, packed: bytes, count: int) -> None:
         self._packed, self._count = packed, count
@@ -72,6 +77,10 @@ class Encoding:
     variables: the last variable that is taken.
     original: the variables before those of products and the fresh ones: those of the problem, or those below the first fresh one.
     clauses: a sequence of lists, each the literals of a clause.
+
+    >>> encoding = pbcnf.encode("+1 x1 +1 x2 +1 x3 <= 1 ;", amo="ladder")
+    >>> len(encoding), encoding.variables, encoding.next_free, encoding.integers[:3].tolist()
+    (5, 5, 6, [-5, 4, 0])
     """
 
     variables: int
@@ -106,6 +115,9 @@ class Solution:
     text: what the program says of it: its `o`, `s` and `v` lines.
     objective: the value of the objective, if there is one.
     values: whether each variable is true, by its name, in the order of the variables.
+
+    >>> pbcnf.decode("min: +2 rain +3 sun ;\\n+1 rain +1 sun = 1 ;", [1])
+    Solution(text='o 2\\ns SATISFIABLE\\nv rain -sun\\n', objective=2, values={'rain': True, 'sun': False})
     """
 
     text: str

@@ -62,19 +62,31 @@ class CardEnc:
     @classmethod
     def atmost(cls, lits: Iterable[int], bound: int = 1, top_id: Optional[int] = None, vpool: Any = None,
                encoding: int = EncType.seqcounter, strict: bool = False) -> CNF:
-        """At most so many are true."""
+        """At most so many are true.
+
+        >>> CardEnc.atmost([1, 2, 3], bound=1, encoding=EncType.ladder).nv
+        5
+        """
         return _counted(lits, "<=", bound, Place(top_id, vpool), encoding, strict)
 
     @classmethod
     def atleast(cls, lits: Iterable[int], bound: int = 1, top_id: Optional[int] = None, vpool: Any = None,
                 encoding: int = EncType.seqcounter, strict: bool = False) -> CNF:
-        """At least so many are true."""
+        """At least so many are true.
+
+        >>> CardEnc.atleast([1, 2], bound=1).clauses
+        [[1, 2]]
+        """
         return _counted(lits, ">=", bound, Place(top_id, vpool), encoding, strict)
 
     @classmethod
     def equals(cls, lits: Iterable[int], bound: int = 1, top_id: Optional[int] = None, vpool: Any = None,
                encoding: int = EncType.seqcounter, strict: bool = False) -> CNF:
-        """Just so many are true."""
+        """Just so many are true.
+
+        >>> CardEnc.equals([1, 2], bound=1).clauses
+        [[1, 2], [-1, -2]]
+        """
         return _counted(lits, "=", bound, Place(top_id, vpool), encoding, strict)
 
 
@@ -85,6 +97,13 @@ class ITotalizer:
     rhs: `rhs[k]` is true if more than k of the literals are: assume `-rhs[k]`, and at most k are. There is one for each k up to
         `ubound` that is below the number of literals.
     top_id: the last variable that is taken. nof_new: how many clauses the last call has added.
+
+    >>> fewest = ITotalizer([1, 2, 3], ubound=1)
+    >>> fewest.rhs
+    [6, 7]
+    >>> fewest.increase(2)
+    >>> fewest.rhs, fewest.nof_new
+    ([6, 7, 8], 0)
     """
 
     def __init__(self, lits: Iterable[int] = (), ubound: int = 1, top_id: Optional[int] = None) -> None:

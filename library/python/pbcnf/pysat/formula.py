@@ -16,6 +16,11 @@ class CNF:
 
     clauses: the list of them.
     nv: the greatest variable that is taken.
+
+    >>> formula = CNF([[1, 2]])
+    >>> formula.append([-3])
+    >>> formula, formula.clauses
+    (CNF(nv=3, 2 clauses), [[1, 2], [-3]])
     """
 
     def __init__(self, clauses: Iterable[List[int]] = (), nv: Optional[int] = None) -> None:
@@ -47,6 +52,10 @@ class IDPool:
 
     top: the greatest variable that was given.
     obj2id, id2obj: the variables by their objects, and the objects by their variables.
+
+    >>> pool = IDPool(occupied=[[2, 3]])
+    >>> pool.id("rain"), pool.id("sun"), pool.id("rain"), pool.obj(4), pool.top
+    (1, 4, 1, 'sun', 4)
     """
 
     def __init__(self, start_from: int = 1, occupied: Sequence[Sequence[int]] = ()) -> None:

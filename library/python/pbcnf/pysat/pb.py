@@ -64,21 +64,33 @@ class PBEnc:
     @classmethod
     def leq(cls, lits: Lits, weights: Optional[Iterable[int]] = None, bound: int = 1, top_id: Optional[int] = None, vpool: Any = None,
             encoding: int = EncType.best, conditionals: Optional[Iterable[int]] = None, strict: bool = False) -> CNF:
-        """The sum is at most the bound."""
+        """The sum is at most the bound.
+
+        >>> PBEnc.leq([1, 2], weights=[2, 3], bound=4, conditionals=[3]).clauses
+        [[-1, -2, -3]]
+        """
         asked = conditioned(_terms(lits, weights), "<=", bound, conditionals or ())
         return _made(asked, Place(top_id, vpool), encoding, strict)
 
     @classmethod
     def geq(cls, lits: Lits, weights: Optional[Iterable[int]] = None, bound: int = 1, top_id: Optional[int] = None, vpool: Any = None,
             encoding: int = EncType.best, conditionals: Optional[Iterable[int]] = None, strict: bool = False) -> CNF:
-        """The sum is at least the bound."""
+        """The sum is at least the bound.
+
+        >>> PBEnc.geq([(1, 2), (2, 3)], bound=5).clauses
+        [[1], [2]]
+        """
         asked = conditioned(_terms(lits, weights), ">=", bound, conditionals or ())
         return _made(asked, Place(top_id, vpool), encoding, strict)
 
     @classmethod
     def equals(cls, lits: Lits, weights: Optional[Iterable[int]] = None, bound: int = 1, top_id: Optional[int] = None, vpool: Any = None,
                encoding: int = EncType.best, conditionals: Optional[Iterable[int]] = None, strict: bool = False) -> CNF:
-        """The sum is the bound."""
+        """The sum is the bound.
+
+        >>> PBEnc.equals([1, 2], weights=[2, 3], bound=3).clauses
+        [[2], [-1, -2]]
+        """
         asked = conditioned(_terms(lits, weights), "=", bound, conditionals or ())
         return _made(asked, Place(top_id, vpool), encoding, strict)
 
