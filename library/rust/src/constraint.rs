@@ -221,7 +221,15 @@ pub fn constraint(
     Ok(encoder.constraint(constraint, first)?.into())
 }
 
-/// The derivation of these clauses, beside the problem of this one constraint over the variables below `first`.
+/// The derivation of the clauses of one constraint, beside the problem of this one over the variables below `first`.
+///
+/// ```
+/// use pbcnf::{derive_constraint, lit, Constraint, Options, Relation};
+/// let (terms, options) = ([(1, lit(1)), (1, lit(2))], Options::new());
+/// let clause = Constraint { terms: &terms, relation: Relation::AtLeast, right: 1 };
+/// assert_eq!(derive_constraint(clause, 3, &options)?, pbcnf::derive(b"+1 x1 +1 x2 >= 1 ;", None, &options)?);
+/// # Ok::<(), pbcnf::Error>(())
+/// ```
 pub fn derive_constraint(
     constraint: Constraint<'_>,
     first: u32,

@@ -86,6 +86,17 @@ impl Constraints {
     }
 
     /// The derivation of these clauses, beside the problem of these constraints over the variables below `first`.
+    ///
+    /// ```
+    /// use pbcnf::{lit, Constraint, Constraints, Options, Relation};
+    /// let terms = [[(1, lit(1)), (1, lit(2))], [(1, lit(2)), (1, lit(3))]];
+    /// let clauses: Constraints =
+    ///     terms.iter().map(|terms| Constraint { terms, relation: Relation::AtLeast, right: 1 }).collect();
+    /// let options = Options::new();
+    /// let text = b"+1 x1 +1 x2 >= 1 ;\n+1 x2 +1 x3 >= 1 ;";
+    /// assert_eq!(clauses.derive(4, &options)?, pbcnf::derive(text, None, &options)?);
+    /// # Ok::<(), pbcnf::Error>(())
+    /// ```
     pub fn derive(&self, first: u32, options: &Options) -> Result<String, Error> {
         let (room, mut said) = (512 * self.columns.literals.len() + 4096, Vec::new());
         let size = self.put(c::pbcnf_constraints_derive, first, options, room, &mut said)?;
@@ -178,5 +189,13 @@ impl<'a> Extend<Constraint<'a>> for Constraints {
         for constraint in constraints {
             self.push(constraint);
         }
+    }
+}
+
+impl<'a> FromIterator<Constraint<'a>> for Constraints {
+    fn from_iter<T: IntoIterator<Item = Constraint<'a>>>(constraints: T) -> Constraints {
+        let mut all = Constraints::new();
+        all.extend(constraints);
+        all
     }
 }

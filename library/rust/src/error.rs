@@ -139,6 +139,13 @@ pub enum Kind {
 }
 
 /// Why a call did not do what was asked. It is shown as the program would print it.
+///
+/// ```
+/// use pbcnf::{Kind, Options};
+/// let error = pbcnf::encode(b"+1 x1 >= ;", None, &Options::new()).unwrap_err();
+/// assert_eq!(error.to_string(), "pbcnf: OPB 1:10: expected an integer");
+/// assert!(matches!(error.kind(), Kind::Refused { place, .. } if (place.line, place.column) == (1, 10)));
+/// ```
 #[derive(Clone, PartialEq, Eq, Hash, Debug)]
 pub struct Error {
     kind: Kind,

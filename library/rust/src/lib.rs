@@ -75,6 +75,13 @@ fn posed<T: Clone + Default>(
 }
 
 /// The clauses of a problem: their models, cut to its variables, are exactly its solutions.
+///
+/// ```
+/// use pbcnf::{Amo, Options};
+/// let encoding = pbcnf::encode(b"+1 x1 +1 x2 +1 x3 <= 1 ;", None, &Options::new().amo(Amo::Ladder))?;
+/// assert_eq!((encoding.original(), encoding.variables(), encoding.clauses().len()), (3, 5, 5));
+/// # Ok::<(), pbcnf::Error>(())
+/// ```
 pub fn encode(opb: &[u8], at_most: Option<i128>, options: &Options) -> Result<Encoding, Error> {
     let room = 2 * opb.len() + 1024;
     let (integers, size) = posed(c::pbcnf_clauses, room, opb, at_most, options)?;
@@ -82,11 +89,23 @@ pub fn encode(opb: &[u8], at_most: Option<i128>, options: &Options) -> Result<En
 }
 
 /// The same clauses as a CNF text, the one that the program writes.
+///
+/// ```
+/// let text = pbcnf::dimacs(b"+2 x1 +1 x2 +1 x3 >= 3 ;", None, &pbcnf::Options::new())?;
+/// assert_eq!(text, "p cnf 3 2\n1 0\n2 3 0\n");
+/// # Ok::<(), pbcnf::Error>(())
+/// ```
 pub fn dimacs(opb: &[u8], at_most: Option<i128>, options: &Options) -> Result<String, Error> {
     posed(c::pbcnf_encode, 4 * opb.len() + 4096, opb, at_most, options).map(|(put, _)| text(put))
 }
 
-/// The derivation of the same clauses, which the program's `check` accepts.
+/// The derivation of the same clauses, which [`check`] accepts.
+///
+/// ```
+/// let text = pbcnf::derive(b"+1 x1 +1 x2 >= 1 ;", None, &pbcnf::Options::new())?;
+/// assert!(text.ends_with("rup +1 x1 +1 x2 >= 1 ; 1\nout 2\nend\n"));
+/// # Ok::<(), pbcnf::Error>(())
+/// ```
 pub fn derive(opb: &[u8], at_most: Option<i128>, options: &Options) -> Result<String, Error> {
     posed(
         c::pbcnf_derive,
@@ -100,6 +119,13 @@ pub fn derive(opb: &[u8], at_most: Option<i128>, options: &Options) -> Result<St
 
 /// The rows of the table of bounds of `encode` with `table` in the options: values that the objective may be below, ascending, each
 /// with the literal that is false just there. Assume its negation, and the models are just the solutions below the value.
+///
+/// ```
+/// use pbcnf::{lit, Options};
+/// let rows = pbcnf::bounds(b"min: +3 x1 -2 x2 ;", None, &Options::new())?;
+/// assert_eq!(rows, [(0, lit(3)), (1, lit(4)), (3, lit(5))]);
+/// # Ok::<(), pbcnf::Error>(())
+/// ```
 pub fn bounds(
     opb: &[u8],
     at_most: Option<i128>,
@@ -114,6 +140,12 @@ pub fn bounds(
 }
 
 /// The weighted CNF of a problem and its objective, the text that the program's `wcnf` writes.
+///
+/// ```
+/// let text = pbcnf::wcnf(b"min: +3 x1 -2 x2 ;\n+1 x1 +1 x2 >= 1 ;", None, &pbcnf::Options::new())?;
+/// assert_eq!(text, "c offset -2\nh 1 2 0\n3 -1 0\n2 2 0\n");
+/// # Ok::<(), pbcnf::Error>(())
+/// ```
 pub fn wcnf(opb: &[u8], at_most: Option<i128>, options: &Options) -> Result<String, Error> {
     posed(c::pbcnf_wcnf, 5 * opb.len() + 4096, opb, at_most, options).map(|(put, _)| text(put))
 }
@@ -127,6 +159,15 @@ fn judged(status: u8, refusal: &c::Refusal) -> Result<(), Error> {
 }
 
 /// Whether a derivation shows that each solution of a problem is the front of a model of a CNF, else why not.
+///
+/// ```
+/// let (opb, options) = (b"+1 x1 +1 x2 >= 1 ;", pbcnf::Options::new());
+/// let proof = pbcnf::derive(opb, None, &options)?;
+/// pbcnf::check(opb, None, b"p cnf 2 1\n1 2 0\n", proof.as_bytes())?;
+/// let error = pbcnf::check(opb, None, b"p cnf 2 1\n1 0\n", proof.as_bytes()).unwrap_err();
+/// assert_eq!(error.to_string(), "pbcnf: PROOF line 4: not implied by 2");
+/// # Ok::<(), pbcnf::Error>(())
+/// ```
 pub fn check(opb: &[u8], at_most: Option<i128>, cnf: &[u8], proof: &[u8]) -> Result<(), Error> {
     judge_library();
     let (bound, mut refusal) = (bound_of(at_most), c::Refusal::default());
@@ -148,6 +189,13 @@ pub fn check(opb: &[u8], at_most: Option<i128>, cnf: &[u8], proof: &[u8]) -> Res
 
 /// Whether these show that a problem has no solution, else why not: the derivation as in `check`, and the refutation, in the LRAT
 /// format, of the CNF.
+///
+/// ```
+/// let (opb, options) = (b"+1 x1 >= 1 ;\n+1 ~x1 >= 1 ;", pbcnf::Options::new());
+/// let (cnf, proof) = (pbcnf::dimacs(opb, None, &options)?, pbcnf::derive(opb, None, &options)?);
+/// pbcnf::refute(opb, None, cnf.as_bytes(), proof.as_bytes(), b"3 0 1 2 0\n")?;
+/// # Ok::<(), pbcnf::Error>(())
+/// ```
 pub fn refute(
     opb: &[u8],
     at_most: Option<i128>,
@@ -209,7 +257,14 @@ pub fn decode(opb: &[u8], at_most: Option<i128>, model: &[u8]) -> Result<Solutio
     Ok(Solution::of(said))
 }
 
-/// The same of a model that is given as its true literals. A variable that is not listed is false.
+/// The solution that a model gives whose true literals are these, tested likewise. A variable that is not listed is false.
+///
+/// ```
+/// use pbcnf::lit;
+/// let solution = pbcnf::decode_literals(b"min: +2 rain +3 sun ;\n+1 rain +1 sun = 1 ;", None, [lit(1)])?;
+/// assert_eq!(solution.objective(), Some(2));
+/// # Ok::<(), pbcnf::Error>(())
+/// ```
 pub fn decode_literals(
     opb: &[u8],
     at_most: Option<i128>,
@@ -227,6 +282,11 @@ pub fn decode_literals(
 }
 
 /// The free names of a problem, with the numbers of their variables. A variable that is not here is named by its number.
+///
+/// ```
+/// assert_eq!(pbcnf::names(b"+1 rain +1 x1 >= 1 ;")?, [(2, "rain".to_owned())]);
+/// # Ok::<(), pbcnf::Error>(())
+/// ```
 pub fn names(opb: &[u8]) -> Result<Vec<(u32, String)>, Error> {
     // SAFETY: as in `posed`.
     let said = said_of(opb, |put, length, refusal| unsafe {

@@ -5,6 +5,15 @@ use std::iter::FusedIterator;
 
 /// The clauses of a problem, or of one constraint. `for clause in &encoding` goes through them. The integers are a vector of its
 /// own, or lent by an [`Encoder`](crate::Encoder).
+///
+/// ```
+/// use pbcnf::lit;
+/// let encoding = pbcnf::encode(b"+2 x1 +1 x2 +1 x3 >= 3 ;", None, &pbcnf::Options::new())?;
+/// assert_eq!((encoding.variables(), encoding.next_free()), (3, 4));
+/// assert_eq!(encoding.clauses().last(), Some(&[lit(2), lit(3)][..]));
+/// assert_eq!(encoding.into_integers(), [1, 0, 2, 3, 0]);
+/// # Ok::<(), pbcnf::Error>(())
+/// ```
 #[derive(Clone, Copy, PartialEq, Eq, Hash, Debug)]
 pub struct Encoding<I = Vec<i32>> {
     variables: u32,
