@@ -82,18 +82,6 @@ ONE(wide, pbcnf_constraint, int32_t, wide, PBCNF_EQUAL, 11, 1)
 ONE(narrow_derive, pbcnf_constraint_derive, uint8_t, narrow, PBCNF_AT_LEAST, 9, 0)
 ONE(wide_derive, pbcnf_constraint_derive, uint8_t, wide, PBCNF_AT_LEAST, 11, 1)
 
-/* Two constraints in columns, the terms of one behind those of the other. */
-static const pbcnf_sum sums[] = {{PBCNF_AT_MOST, 0, 4, 6, 0}, {PBCNF_EQUAL, 0, 3, 7, 0}};
-
-#define MANY(name, call, type) \
-  static void make_##name(const struct problem *p, void *room, size_t count, struct answer *a) { \
-    a->status = call((const uint64_t *)narrow, COUNT(narrow), literals, COUNT(literals), sums, COUNT(sums), 20, &p->options, (type *)room, \
-                     count, &a->size, &a->refusal); \
-    a->length = a->size.length; \
-  }
-MANY(many, pbcnf_constraints, int32_t)
-MANY(many_derive, pbcnf_constraints_derive, uint8_t)
-
 static const struct call calls[] = {
     {"encode", 1, make_encode},
     {"clauses", 4, make_clauses},
@@ -107,8 +95,6 @@ static const struct call calls[] = {
     {"constraint, 128 bits", 4, make_wide},
     {"constraint_derive, 64 bits", 1, make_narrow_derive},
     {"constraint_derive, 128 bits", 1, make_wide_derive},
-    {"constraints", 4, make_many},
-    {"constraints_derive", 1, make_many_derive},
 };
 
 /* Problems of which each call is done, but for decode of one without a solution. */

@@ -90,9 +90,8 @@ impl Constraints {
     /// ```
     /// use pbcnf::{lit, Constraint, Constraints, Options, Relation};
     /// let terms = [[(1, lit(1)), (1, lit(2))], [(1, lit(2)), (1, lit(3))]];
-    /// let clauses: Constraints =
-    ///     terms.iter().map(|terms| Constraint { terms, relation: Relation::AtLeast, right: 1 }).collect();
-    /// let options = Options::new();
+    /// let (mut clauses, options) = (Constraints::new(), Options::new());
+    /// clauses.extend(terms.iter().map(|terms| Constraint { terms, relation: Relation::AtLeast, right: 1 }));
     /// let text = b"+1 x1 +1 x2 >= 1 ;\n+1 x2 +1 x3 >= 1 ;";
     /// assert_eq!(clauses.derive(4, &options)?, pbcnf::derive(text, None, &options)?);
     /// # Ok::<(), pbcnf::Error>(())
@@ -189,13 +188,5 @@ impl<'a> Extend<Constraint<'a>> for Constraints {
         for constraint in constraints {
             self.push(constraint);
         }
-    }
-}
-
-impl<'a> FromIterator<Constraint<'a>> for Constraints {
-    fn from_iter<T: IntoIterator<Item = Constraint<'a>>>(constraints: T) -> Constraints {
-        let mut all = Constraints::new();
-        all.extend(constraints);
-        all
     }
 }
