@@ -283,6 +283,13 @@ run_tests() {
     done <"$told"
 }
 
+# refutes CNF LRAT: has CaDiCaL refute these clauses, and makes LRAT of the reasons that it writes.
+refutes() {
+    cadical -q --no-binary "$1" "$state/drat" >"$state/solver"
+    expect 0 "$examples/hints" "$1" "$state/drat"
+    cp -- "$said" "$2"
+}
+
 # completed WORD..: keeps what the completion for bash offers for the last of these words, one a line.
 completed() {
     compopt() { :; }

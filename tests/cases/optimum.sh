@@ -64,9 +64,7 @@ proves() {
     worth "$opb" "$value" best.model
     worth "$opb" "$next" worse.model
     fine encode "$opb" o.cnf o.proof "$(at_most "$((value - 1))")"
-    cadical -q --no-binary o.cnf o.drat >cadical.log
-    expect 0 "$examples/hints" o.cnf o.drat
-    cp "$said" o.lrat
+    refutes o.cnf o.lrat
     fine optimum "$opb" best.model o.cnf o.proof o.lrat
     head -n 2 "$said" >first
     holds first "o $value" 's OPTIMUM FOUND'
