@@ -17,9 +17,9 @@ import unittest.mock
 
 sys.path.insert(0, os.path.join(os.path.dirname(os.path.realpath(__file__)), os.pardir))
 
-from pbcnf.tools import encodings, optimizers, progress, reasons, search, seekers, sources, values, workspace  # noqa: E402
+from pbcnf.tools import encodings, optimizers, progress, search, seekers, sources, values, workspace  # noqa: E402
 from pbcnf.tools.program import Solution, Summary, bound_option  # noqa: E402
-from pbcnf.tools.solvers import Effort, Reasons, Verdict  # noqa: E402
+from pbcnf.tools.solvers import Effort, Verdict  # noqa: E402
 from pbcnf.tools.statuses import Stop  # noqa: E402
 from pbcnf.tools.watch import Interrupted, Watch  # noqa: E402
 
@@ -319,7 +319,7 @@ class Drawn:
     def possible(self):
         return values.Values(self.least, self.weights)
 
-    def pose(self, bound, effort=None):
+    def pose(self, bound, effort=None, has_rival=False):
         self.calls += 1
         if bound in [other[0] for other in self.open if other != "descent"]:
             raise AssertionError("asked twice at once")
@@ -438,11 +438,6 @@ class Lines(Folder):
             with unittest.mock.patch("sys.stderr", error):
                 progress.Progress("tool", quiet).refutes(True)
             self.assertEqual(error.getvalue().startswith("tool: having it refuted that any is better, which takes minutes; with CaDiCaL"), not quiet)
-        long = self.put("long", b"1 0\n" * 500001)
-        for size, trim, kind, wanted in ((long, None, Reasons.DRAT, True), (long, "drat-trim", Reasons.DRAT, False), (long, None, Reasons.LRAT, False),
-                                         (self.put("short", b"1 0\n"), None, Reasons.DRAT, False)):
-            with unittest.mock.patch("shutil.which", return_value=trim):
-                self.assertEqual(reasons.takes_long(kind, size), wanted)
 
 
 class Efforts(unittest.TestCase):

@@ -18,7 +18,7 @@ from pbcnf.tools.opb_text import Statement, statements, token_at
 from pbcnf.tools.output import complain, say, status_of, test_output
 from pbcnf.tools.program import Program, Refutation
 from pbcnf.tools.reasons import make_lrat
-from pbcnf.tools.solvers import Files, Verdict
+from pbcnf.tools.solvers import Attempt, Files, Verdict
 from pbcnf.tools.statuses import Status, Stop
 from pbcnf.tools.watch import Interrupted, Watch
 from pbcnf.tools.workspace import Workspace, put_whole, workspace_of
@@ -73,6 +73,7 @@ class _Core:
         self._watch = watch
         self._workspace = workspace
         self._solver = solver
+        self._rival = solvers.find_rival(solver, watch)
         self._options = options.of_encode(given)
         self._lrat = ""
 
@@ -106,7 +107,7 @@ class _Core:
         if verdict is Verdict.UNKNOWN:
             raise Stop(Status.NO_ANSWER, run.ended())
         if verdict is Verdict.NO_MODEL and self._solver.reasons is not None:
-            self._lrat = make_lrat(self._solver.reasons, files.cnf, files.reasons, self._watch, self._workspace)
+            self._lrat = make_lrat([Attempt(self._solver, files, run)], self._rival, self._watch, self._workspace)
         return verdict
 
     def _print_solution(self, proved: Program) -> int:

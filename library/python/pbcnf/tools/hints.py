@@ -15,6 +15,8 @@ import sys
 from typing import IO, Callable, Dict, Iterable, Iterator, List, NamedTuple, Optional, Tuple, TypeVar
 
 import pbcnf
+from pbcnf.tools.frat import is_frat
+from pbcnf.tools.frat import lrat_lines as frat_lines
 from pbcnf.tools.output import say, status_of, test_output
 from pbcnf.tools.propagation import Clauses
 from pbcnf.tools.statuses import Status, Stop
@@ -62,21 +64,24 @@ def _run(given: argparse.Namespace) -> int:
     return Status.DONE
 
 
-def lrat_lines(cnf: str, drat: str, pause: Callable[[], None] = lambda: None) -> Iterator[str]:
-    """The lines of an LRAT text, for the files of a CNF and of a DRAT text. `pause` is called every now and then.
+def lrat_lines(cnf: str, refutation: str, pause: Callable[[], None] = lambda: None) -> Iterator[str]:
+    """The lines of an LRAT text, for the files of a CNF and of a refutation in DRAT or FRAT. `pause` is called every now and then.
 
     Nothing is given where the texts refute nothing: that raises `Stop` before the first line.
     """
-    hints = _Hints(pause)
     try:
-        with open(cnf, "rb") as clauses, open(drat, "rb") as added:
+        with open(cnf, "rb") as clauses, open(refutation, "rb") as added:
+            if is_frat(added):
+                yield from frat_lines(sum(1 for _ in _clauses_of(clauses)), added, pause)
+                return
+            hints = _Hints(pause)
             hints.read(clauses, added)
     except OSError as error:
         raise Stop(Status.UNREAD, "%s: %s" % (error.filename, error.strerror))
-    except ValueError:
-        raise Stop(_REFUSED, "%s or %s has a line that is none of clauses" % (os.path.basename(cnf), os.path.basename(drat)))
+    except (ValueError, IndexError):
+        raise Stop(_REFUSED, "%s or %s has a line that is none of clauses" % (os.path.basename(cnf), os.path.basename(refutation)))
     hints.justify_core()
-    return hints.lines()
+    yield from hints.lines()
 
 
 class _Hints:
@@ -96,7 +101,7 @@ class _Hints:
 
     def read(self, cnf: IO[bytes], drat: IO[bytes]) -> None:
         """Reads both texts, up to where a clause is false."""
-        given = list(self._paused(_clauses_of(cnf)))
+        given = [[int(word) for word in line.split()[:-1]] for line in self._paused(_clauses_of(cnf))]
         added = list(self._paused(_lines_of(drat)))
         every = itertools.chain(given, (literals for _, _, literals in added))
         self._clauses = Clauses(max((max(max(literals), -min(literals)) for literals in every if literals), default=0))
@@ -141,7 +146,7 @@ class _Hints:
     def justify_core(self) -> None:
         """Goes backwards, and finds the reasons of each added clause on which the empty one rests."""
         clauses = self._clauses
-        self._reasons[0] = self._behind(self._wrong, 0)
+        self._rest_on(clauses.behind(self._wrong), 0)
         for event in reversed(self._events):
             if not event.is_added:
                 clauses.revive(event.number)
@@ -154,46 +159,18 @@ class _Hints:
                 self._justify(event)
 
     def _justify(self, event: _Event) -> None:
-        """Takes the literals of a clause as false, which has to lead to a false clause."""
-        clauses = self._clauses
-        before = len(clauses.trail)
-        wrong = 0
-        for literal in clauses.literals[event.number]:
-            if clauses.is_true(literal):
-                wrong = clauses.reason_of(literal)
-                break
-            if not clauses.is_true(-literal):
-                clauses.assign(-literal, 0)
-        else:
-            wrong = clauses.propagate()
-        if not wrong:
+        """Has unit propagation show that a clause follows from those before it."""
+        reasons = self._clauses.justify(self._clauses.literals[event.number])
+        if reasons is None:
             raise Stop(_REFUSED, "line %d does not follow by unit propagation" % event.line)
-        self._reasons[event.number] = self._behind(wrong, event.number)
-        clauses.take_back(before)
+        self._rest_on(reasons, event.number)
 
-    def _behind(self, wrong: int, user: int) -> List[int]:
-        """The clauses on which a false one rests, each behind those that it needs itself. They are of the core from now on: those
-        that were not before serve the user of them for the last time, seen forwards."""
-        clauses = self._clauses
-        order: List[int] = []
-        seen = set()
-        stack = [(wrong, iter(clauses.literals[wrong]))]
-        while stack:
-            number, literals = stack[-1]
-            for literal in literals:
-                reason = clauses.reason_of(-literal)
-                if reason and literal not in seen:
-                    seen.add(literal)
-                    stack.append((reason, iter(clauses.literals[reason])))
-                    break
-            else:
-                order.append(number)
-                stack.pop()
-        fresh = [number for number in order if not clauses.in_core[number]]
-        for number in fresh:
-            clauses.put_in_core(number)
-        self._ends[user] = fresh
-        return order
+    def _rest_on(self, reasons: List[int], user: int) -> None:
+        """Makes these clauses ones of the core: those that were not before serve the user of them for the last time, seen forwards."""
+        self._reasons[user] = reasons
+        self._ends[user] = [number for number in reasons if not self._clauses.in_core[number]]
+        for number in self._ends[user]:
+            self._clauses.put_in_core(number)
 
     def lines(self) -> Iterator[str]:
         """The text, forwards: what is added, and what nothing needs any more."""
@@ -206,11 +183,9 @@ class _Hints:
         yield " ".join(map(str, [len(self._held), 0, *self._reasons[0], 0])) + "\n"
 
 
-def _clauses_of(cnf: IO[bytes]) -> Iterator[List[int]]:
-    """The clauses of a CNF, one a line, as `encode` writes them."""
-    for line in cnf:
-        if line[:1] not in b"cp" and line.strip():
-            yield [int(word) for word in line.split()[:-1]]
+def _clauses_of(cnf: IO[bytes]) -> Iterator[bytes]:
+    """The lines of a CNF with its clauses, one a line, as `encode` writes them."""
+    return (line for line in cnf if line[:1] not in b"cp" and line.strip())
 
 
 def _lines_of(drat: IO[bytes]) -> Iterator[Tuple[int, bool, List[int]]]:

@@ -54,26 +54,22 @@ def _run(given: argparse.Namespace) -> int:
     progress = Progress(_NAME, given.quiet)
     watch = Watch(given.seconds, progress.tick)
     path = program.find(os.environ)
-    solver = solvers.find(given.solver, os.environ, watch)
+    team = solvers.find_team(given.solver, os.environ, watch, not given.unproved)
     problem = options.problem_of(given, _NAME)
-    prover = solver if solver.reasons else solvers.find_prover(given.solver, os.environ, watch)
-    if given.unproved:
-        prover = solver.reasons = None
-    elif prover is None and not given.quiet:
-        complain(_NAME, "%s gives no reasons, so nothing will be refuted; CaDiCaL does" % solver.name)
+    if team.prover is None and not (given.unproved or given.quiet):
+        complain(_NAME, "%s gives no reasons, so nothing will be refuted; CaDiCaL does" % team.solver.name)
     with workspace_of(watch) as workspace:
         proved = program.Program(path, watch, workspace, problem, given.opb)
-        oracle = Oracle(proved, options.encodings(given, proved), solver, watch, workspace, progress)
-        return _Run(proved, oracle, prover, progress, watch, problem).run(given)
+        oracle = Oracle(proved, options.encodings(given, proved), team, watch, workspace, progress)
+        return _Run(proved, oracle, progress, watch, problem).run(given)
 
 
 class _Run:
     """One run of the command over a problem that was read."""
 
-    def __init__(self, proved: program.Program, oracle: Oracle, prover: Optional[solvers.Solver], progress: Progress, watch: Watch, problem: bytes) -> None:
+    def __init__(self, proved: program.Program, oracle: Oracle, progress: Progress, watch: Watch, problem: bytes) -> None:
         self._proved = proved
         self._oracle = oracle
-        self._prover = prover
         self._progress = progress
         self._watch = watch
         self._problem = problem
@@ -114,7 +110,7 @@ class _Run:
     def _conclude(self, found: Found, keep: Optional[str]) -> int:
         best = found.incumbent
         if best is None:
-            self._oracle.certify(None, self._prover, keep)
+            self._oracle.certify(None, keep)
             say("s UNSATISFIABLE\n")
             return Status.NO_SOLUTION
         if best.value is None:
@@ -122,7 +118,7 @@ class _Run:
             complain(_NAME, "there is no objective")
             say("s SATISFIABLE\n%s\n" % best.values)
             return Status.NO_OBJECTIVE
-        self._oracle.certify_best(best, self._prover, keep)
+        self._oracle.certify_best(best, keep)
         self._progress.clear()
         say("s OPTIMUM FOUND\n%s\n" % best.values)
         return Status.DONE

@@ -7,7 +7,7 @@ other solution. That it finds nothing better is no proof, but tells what to have
 from __future__ import annotations
 
 import shutil
-from typing import Optional, Sequence
+from typing import List, Optional, Sequence
 
 from pbcnf.tools.program import Program
 from pbcnf.tools.watch import Running, Watch
@@ -26,6 +26,11 @@ class Descent:
         self.has_ended = False
         """Whether it says that nothing is better."""
         self._lines = b""
+
+    @property
+    def runnings(self) -> List[Running]:
+        """The program that is heard."""
+        return [self.running]
 
     def model(self) -> Optional[bytes]:
         """The last model that it has said since, as a solver's text."""

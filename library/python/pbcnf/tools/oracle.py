@@ -16,9 +16,9 @@ from pbcnf.tools.encodings import Encodings
 from pbcnf.tools.optimizers import Descent
 from pbcnf.tools.program import Program, Refutation, Solution, Summary, bound_option
 from pbcnf.tools.reasons import make_lrat, takes_long
-from pbcnf.tools.solvers import Effort, Files, Run, Solver, Verdict
+from pbcnf.tools.solvers import Attempt, Effort, Files, Run, Solver, Team, Verdict
 from pbcnf.tools.statuses import Status, Stop
-from pbcnf.tools.watch import Watch
+from pbcnf.tools.watch import Running, Watch
 from pbcnf.tools.workspace import Workspace, put_whole
 
 Answer = Union[Solution, Verdict]
@@ -45,15 +45,19 @@ class Told(Protocol):
 
 
 class Question:
-    """Whether there is a solution of at most a value, which the solver is about to answer."""
+    """Whether there is a solution of at most a value, which one solver or two are about to answer."""
 
-    def __init__(self, bound: Optional[int], is_limited: bool, options: List[str], files: Files, run: Run) -> None:
+    def __init__(self, bound: Optional[int], is_limited: bool, options: List[str], attempts: List[Attempt]) -> None:
         self.bound = bound
         self.is_limited = is_limited
         self.options = options
-        self.files = files
-        self.run = run
-        self.running = run.running
+        self.cnf = attempts[0].files.cnf
+        self.attempts = attempts
+
+    @property
+    def runnings(self) -> List[Running]:
+        """The programs that are heard."""
+        return [attempt.run.running for attempt in self.attempts]
 
 
 Asked = Union[Question, Descent]
@@ -62,10 +66,10 @@ Asked = Union[Question, Descent]
 class Oracle:
     """Looks for solutions of a problem, and keeps why there are none."""
 
-    def __init__(self, program: Program, encodings: Encodings, solver: Solver, watch: Watch, workspace: Workspace, told: Told) -> None:
+    def __init__(self, program: Program, encodings: Encodings, team: Team, watch: Watch, workspace: Workspace, told: Told) -> None:
         self._program = program
         self._encodings = encodings
-        self._solver = solver
+        self._team = team
         self._watch = watch
         self._workspace = workspace
         self._told = told
@@ -76,13 +80,21 @@ class Oracle:
         """A solution of at most this value, or that there is none, or that the effort was not enough to know."""
         return self.wait([self.pose(bound, effort)])[1]
 
-    def pose(self, bound: Optional[int], effort: Optional[Effort] = None) -> Question:
-        """Has the solver begin to look for a solution of at most this value."""
+    def pose(self, bound: Optional[int], effort: Optional[Effort] = None, has_rival: bool = False) -> Question:
+        """Has the solver begin to look for a solution of at most this value, and the rival beside it, if there is one."""
+        return self._pose(self._team.solver, self._team.rival if has_rival else None, bound, effort)
+
+    def _pose(self, solver: Solver, rival: Optional[Solver], bound: Optional[int], effort: Optional[Effort]) -> Question:
         self._count += 1
-        files = Files(*(self._workspace.path("%s.%d" % (name, self._count)) for name in ("cnf", "model", "reasons")))
-        size, options = self._encodings.encode(_bound(bound), files.cnf)
+        cnf = self._workspace.path("cnf.%d" % self._count)
+        size, options = self._encodings.encode(_bound(bound), cnf)
         self._told.asks(bound, size)
-        return Question(bound, effort is not None, options, files, self._solver.start(files, effort))
+        attempts: List[Attempt] = []
+        for asked in (solver, rival):
+            if asked is not None:
+                files = Files(cnf, *(self._workspace.path("%s.%d.%d" % (name, self._count, len(attempts))) for name in ("model", "reasons")))
+                attempts.append(Attempt(asked, files, asked.start(files, effort)))
+        return Question(bound, effort is not None, options, attempts)
 
     def descend(self) -> Optional[Descent]:
         """Has an optimizer look for better and better solutions, if there is one."""
@@ -91,62 +103,68 @@ class Oracle:
     def wait(self, asked: Sequence[Asked]) -> Tuple[Asked, Answer]:
         """Waits for the first answer to what is asked: to a question, which is put no more then, or the next one of an optimizer."""
         while True:
-            heard = self._watch.wait([one.running for one in asked])
-            one = next(one for one in asked if one.running is heard)
-            answer = self._hear(one) if isinstance(one, Descent) else self._end(one)
+            heard = self._watch.wait([running for one in asked for running in one.runnings])
+            one = next(one for one in asked if heard in one.runnings)
+            answer = self._hear(one) if isinstance(one, Descent) else self._end(one, heard)
             if answer is not None:
                 return one, answer
 
     def drop(self, one: Asked) -> None:
         """Asks it no more."""
-        self._watch.end(one.running)
+        for running in one.runnings:
+            self._watch.end(running)
         if isinstance(one, Question):
             _clear(one)
 
-    def certify(self, bound: Optional[int], prover: Optional[Solver], keep: Optional[str] = None) -> None:
+    def certify(self, bound: Optional[int], keep: Optional[str] = None) -> None:
         """Comes back where the program's `refute` accepts that no solution is within the bound, which the solver has refused.
 
         Where `keep` is a folder, what it rests on is put there.
         """
-        refutation = self._refutation(bound, prover)
+        refutation = self._refutation(bound)
         self._program.refute(refutation, _bound(bound))
         if keep is not None:
             _put(refutation, keep)
 
-    def certify_best(self, best: Solution, prover: Optional[Solver], keep: Optional[str] = None) -> None:
+    def certify_best(self, best: Solution, keep: Optional[str] = None) -> None:
         """Comes back where the program's `optimum` accepts this solution as one; the solver has refused what is better.
 
         Where `keep` is a folder, what it rests on is put there.
         """
         assert best.value is not None
-        refutation = self._refutation(best.value - 1, prover)
+        refutation = self._refutation(best.value - 1)
         self._program.optimum(best, refutation)
         if keep is not None:
             _put(refutation, keep)
             put_whole(self._workspace.write("best.model", best.model), os.path.join(keep, "best.model"))
 
-    def _refutation(self, bound: Optional[int], prover: Optional[Solver]) -> Refutation:
+    def _refutation(self, bound: Optional[int]) -> Refutation:
         """The refutation that there is a solution within the bound: that of the solver's run where the solver is the prover, else that
         of one more run. The derivation is that of the same CNF, which is written once more beside it."""
-        if prover is None or prover.reasons is None:
-            raise Stop(Status.UNPROVED, "%s finds nothing better, and gives no reasons that would refute it" % self._solver.name)
-        if self._refused is None or self._refused.bound != bound or self._solver is not prover:
-            self._solver = prover
-            self.ask(bound)
-        if self._refused is None or self._refused.bound != bound:
-            raise Stop(Status.NO_ANSWER, "%s says now this, now that" % self._solver.name)
-        cnf, _, reasons = self._refused.files
+        solver, prover, rival = self._team
+        if prover is None:
+            raise Stop(Status.UNPROVED, "%s finds nothing better, and gives no reasons that would refute it" % solver.name)
+        if self._refused is None or self._refused.bound != bound or solver is not prover:
+            self.wait([self._pose(prover, None, bound, None)])
+        refused = self._refused
+        if refused is None or refused.bound != bound:
+            raise Stop(Status.NO_ANSWER, "%s says now this, now that" % solver.name)
         proof = self._workspace.path("proof")
-        self._told.refutes(os.path.exists(reasons) and takes_long(prover.reasons, reasons))
-        self._program.encode(self._refused.options, cnf, proof)
-        return Refutation(cnf, proof, make_lrat(prover.reasons, cnf, reasons, self._watch, self._workspace))
+        self._told.refutes(takes_long(refused.attempts, rival))
+        self._program.encode(refused.options, refused.cnf, proof)
+        return Refutation(refused.cnf, proof, make_lrat(refused.attempts, rival, self._watch, self._workspace))
 
-    def _end(self, question: Question) -> Answer:
-        answer = self._judge(question)
+    def _end(self, question: Question, heard: Running) -> Optional[Answer]:
+        """The answer that one of the solvers has given, or nothing where it is the rival that has failed."""
+        attempt = next(attempt for attempt in question.attempts if attempt.run.running is heard)
+        if attempt.solver is self._team.rival and attempt.run.verdict() is Verdict.UNKNOWN:
+            question.attempts.remove(attempt)
+            return None
+        answer = self._judge(question, attempt)
         if answer is Verdict.NO_MODEL:
             self._keep(question)
         else:
-            _clear(question)
+            self.drop(question)
         return answer
 
     def _hear(self, descent: Descent) -> Optional[Answer]:
@@ -163,12 +181,12 @@ class Oracle:
             return Verdict.NO_MODEL
         return None if descent.running.status is None and descent.running.output is not None else Verdict.UNKNOWN
 
-    def _judge(self, question: Question) -> Answer:
-        verdict = question.run.verdict()
+    def _judge(self, question: Question, attempt: Attempt) -> Answer:
+        verdict = attempt.run.verdict()
         if verdict is Verdict.MODEL:
-            return tested(self._program, question.run, question.files.model, _bound(question.bound))
-        if verdict is Verdict.UNKNOWN and not (question.is_limited and question.run.gave_up):
-            raise Stop(Status.NO_ANSWER, question.run.ended())
+            return tested(self._program, attempt.run, attempt.files.model, _bound(question.bound))
+        if verdict is Verdict.UNKNOWN and not (question.is_limited and attempt.run.gave_up):
+            raise Stop(Status.NO_ANSWER, attempt.run.ended())
         return verdict
 
     def _keep(self, question: Question) -> None:
@@ -179,7 +197,7 @@ class Oracle:
             # The questions are put beside one another, so that the greater may have been refused before.
             if question.bound is not None and (before.bound is None or question.bound < before.bound):
                 self._refused, before = before, question
-            _clear(before)
+            self.drop(before)
 
 
 def _bound(bound: Optional[int]) -> List[str]:
@@ -195,6 +213,6 @@ def _put(refutation: Refutation, folder: str) -> None:
 
 def _clear(question: Question) -> None:
     """Takes away its files, of which there may be none."""
-    for path in question.files:
+    for path in (path for attempt in question.attempts for path in attempt.files):
         if os.path.exists(path):
             os.unlink(path)

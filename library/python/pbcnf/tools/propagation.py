@@ -10,7 +10,7 @@ so fewer others come into it.
 
 from __future__ import annotations
 
-from typing import Dict, Iterable, List, Tuple, TypeVar
+from typing import Dict, Iterable, List, Optional, Tuple, TypeVar
 
 # A clause of more literals is watched.
 _SHORT = 3
@@ -123,10 +123,6 @@ class Clauses:
         """The clause that has made a literal true, or 0 where it is not, or was only assumed."""
         return self._reason[literal] if self._true[literal] else 0
 
-    def is_true(self, literal: int) -> bool:
-        """Whether a literal is true."""
-        return bool(self._true[literal])
-
     def assign(self, literal: int, number: int) -> None:
         """Makes a literal true, because of a clause, or as one that is assumed, for 0."""
         self._true[literal] = self._false[-literal] = 1
@@ -153,6 +149,40 @@ class Clauses:
             if not wrong and core.done < len(trail):
                 wrong = self._visit(core, len(self._true))
         return wrong
+
+    def justify(self, literals: Iterable[int]) -> Optional[List[int]]:
+        """The clauses from which one of these literals follows: they are taken as false, which has to lead to a false clause."""
+        before = len(self.trail)
+        wrong = 0
+        for literal in literals:
+            if self._true[literal]:
+                wrong = self._reason[literal]
+                break
+            if not self._true[-literal]:
+                self.assign(-literal, 0)
+        else:
+            wrong = self.propagate()
+        reasons = self.behind(wrong) if wrong else None
+        self.take_back(before)
+        return reasons
+
+    def behind(self, wrong: int) -> List[int]:
+        """The clauses on which a false one rests, each behind those that it needs itself, and that one."""
+        order: List[int] = []
+        seen = set()
+        stack = [(wrong, iter(self.literals[wrong]))]
+        while stack:
+            number, literals = stack[-1]
+            for literal in literals:
+                reason = self.reason_of(-literal)
+                if reason and literal not in seen:
+                    seen.add(literal)
+                    stack.append((reason, iter(self.literals[reason])))
+                    break
+            else:
+                order.append(number)
+                stack.pop()
+        return order
 
     def _group(self, number: int) -> Group:
         return self._core if self.in_core[number] else self._rest

@@ -1,51 +1,130 @@
-"""Makes an LRAT text, which `refute` takes, of why a solver found no model: it is one, or hints are found for its DRAT text."""
+"""Makes an LRAT text, which `refute` takes, of why solvers found no model: it is one, or hints are found for it, or it has hints that
+are put in order. Where that takes long several are made beside one another, and the first is taken."""
 
 from __future__ import annotations
 
 import os
 import shutil
-from typing import Callable
+import sys
+from typing import Callable, Dict, List, Optional, Sequence
 
 from pbcnf.tools.hints import lrat_lines
-from pbcnf.tools.solvers import Reasons
+from pbcnf.tools.solvers import Attempt, Files, Reasons, Solver, Verdict
 from pbcnf.tools.statuses import Status, Stop
-from pbcnf.tools.watch import Watch
+from pbcnf.tools.watch import Running, Watch
 from pbcnf.tools.workspace import Workspace
 
 # From so many bytes on drat-trim is faster, where it is there: it takes a fifth of a second to start.
 _LARGE = 50000
+# From so many on it pays to start other programs beside one another, and to say that it takes long.
+_LONG = 500000
 _VERY_LARGE = 2000000
+# Runs `pbcnf-hints` of the package that lies there, the more nicely the longer it takes.
+_HINTS = "import os, sys; os.nice(int(sys.argv.pop(1))); sys.path.insert(0, sys.argv.pop(1)); from pbcnf.tools.hints import main; sys.exit(main())"
 
 
-def takes_long(kind: Reasons, reasons: str) -> bool:
-    """Whether it takes minutes to find hints for a solver's reasons."""
-    return kind is Reasons.DRAT and os.path.getsize(reasons) > _VERY_LARGE and not shutil.which("drat-trim")
+def takes_long(attempts: Sequence[Attempt], rival: Optional[Solver]) -> bool:
+    """Whether it takes minutes to find hints for the reasons of a solver that has found no model."""
+    alone = rival is None and len(attempts) == 1 and attempts[0].solver.reasons is Reasons.DRAT
+    return alone and _size(attempts[0]) > _VERY_LARGE and not shutil.which("drat-trim")
 
 
-def make_lrat(kind: Reasons, cnf: str, reasons: str, watch: Watch, workspace: Workspace) -> str:
-    """The path of the LRAT text for a CNF and a solver's reasons, which may be none where a clause of the CNF is empty."""
-    with open(reasons, "ab") as file:
-        size = file.tell()
-    if kind is Reasons.LRAT:
-        return reasons
+def make_lrat(attempts: Sequence[Attempt], rival: Optional[Solver], watch: Watch, workspace: Workspace) -> str:
+    """The path of an LRAT text for the CNF of these attempts, one of which has found no model; others may still run.
+
+    The rival is one who may try it too.
+    """
+    ended = [attempt for attempt in attempts if attempt.run.running.status is not None]
+    first = ended[0]
+    size = _size(first)
+    if first.solver.reasons is Reasons.LRAT:
+        return first.files.reasons
     lrat = workspace.path("lrat")
-    trim = shutil.which("drat-trim") if size > _LARGE else None
-    if not trim or not _trim(trim, cnf, reasons, lrat, watch, workspace):
-        _write(lrat, cnf, reasons, watch.test)
-    return lrat
+    others = [attempt for attempt in attempts if attempt is not first]
+    if _trim(first, lrat, watch, workspace):
+        return lrat
+    if size > _LONG and (others or rival):
+        return _Race([first, *others], rival, watch, workspace).run()
+    try:
+        _write(first, lrat, watch.test)
+        return lrat
+    except Stop:
+        if not others:
+            raise
+    return _Race(others, None, watch, workspace).run()
 
 
-def _trim(trim: str, cnf: str, drat: str, lrat: str, watch: Watch, workspace: Workspace) -> bool:
+def _size(attempt: Attempt) -> int:
+    """The bytes of its reasons. There may be none where a clause of the CNF is empty."""
+    with open(attempt.files.reasons, "ab") as file:
+        return file.tell()
+
+
+def _trim(attempt: Attempt, lrat: str, watch: Watch, workspace: Workspace) -> bool:
+    """Has drat-trim make the text, where it is on the path and that pays."""
+    trim = shutil.which("drat-trim") if attempt.solver.reasons is Reasons.DRAT and _size(attempt) > _LARGE else None
+    if trim is None:
+        return False
     with open(workspace.path("trim"), "wb") as said:
-        return watch.run([trim, cnf, drat, "-L", lrat], stdout=said, stderr=said) == 0
+        return watch.run([trim, attempt.files.cnf, attempt.files.reasons, "-L", lrat], stdout=said, stderr=said) == 0
 
 
-def _write(lrat: str, cnf: str, drat: str, pause: Callable[[], None]) -> None:
+def _write(attempt: Attempt, lrat: str, pause: Callable[[], None]) -> None:
     try:
         with open(lrat, "w", encoding="ascii") as file:
-            file.writelines(lrat_lines(cnf, drat, pause))
+            file.writelines(lrat_lines(attempt.files.cnf, attempt.files.reasons, pause))
     except OSError as error:
         raise Stop(Status.NO_FOLDER, "%s: %s" % (os.path.basename(lrat), error.strerror))
     except Stop as stop:
         # The solver's text is at fault, and no file of the user's.
-        raise Stop(Status.NO_ANSWER, "the solver's reasons: " + stop.words)
+        raise _refused(stop.words)
+
+
+def _refused(words: str) -> Stop:
+    return Stop(Status.NO_ANSWER, "the solver's reasons: " + words)
+
+
+class _Race:
+    """Makes texts beside one another, of the reasons of those who have found no model and of those who still look for one."""
+
+    def __init__(self, attempts: Sequence[Attempt], rival: Optional[Solver], watch: Watch, workspace: Workspace) -> None:
+        self._watch = watch
+        self._workspace = workspace
+        self._looking: List[Attempt] = []
+        self._making: Dict[Running, str] = {}
+        for attempt in attempts:
+            self._looking.append(attempt)
+            if attempt.run.running.status is not None:
+                self._make(attempt)
+        if rival is not None and all(attempt.solver is not rival for attempt in attempts):
+            files = Files(attempts[0].files.cnf, workspace.path("model.rival"), workspace.path("reasons.rival"))
+            self._looking.append(Attempt(rival, files, rival.start(files)))
+
+    def run(self) -> str:
+        """The path of the first text that is made."""
+        while self._making or self._looking:
+            heard = self._watch.wait([*self._making, *(attempt.run.running for attempt in self._looking)])
+            if heard in self._making:
+                lrat = self._making.pop(heard)
+                if heard.status == 0:
+                    self._end()
+                    return lrat
+            else:
+                self._make(next(attempt for attempt in self._looking if attempt.run.running is heard))
+        with open(self._workspace.path("hints.told"), encoding="utf-8", errors="surrogateescape") as file:
+            raise _refused(file.readline().rstrip("\n").partition(": ")[2])
+
+    def _make(self, attempt: Attempt) -> None:
+        """Begins to make the text of one that has ended, if it has found no model."""
+        self._looking.remove(attempt)
+        if attempt.run.verdict() is Verdict.NO_MODEL:
+            lrat = self._workspace.path("lrat.%s" % attempt.solver.name)
+            nice = "10" if attempt.solver.reasons is Reasons.DRAT else "0"
+            package = os.path.dirname(os.path.dirname(os.path.dirname(os.path.abspath(__file__))))
+            with open(lrat, "wb") as made, open(self._workspace.path("hints.told"), "wb") as told:
+                run = self._watch.start([sys.executable, "-c", _HINTS, nice, package, *attempt.files[::2]], made, told)
+            self._making[run] = lrat
+
+    def _end(self) -> None:
+        for running in [*self._making, *(attempt.run.running for attempt in self._looking)]:
+            self._watch.end(running)

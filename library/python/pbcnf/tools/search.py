@@ -16,8 +16,8 @@ from pbcnf.tools.values import Values
 class Asks(Protocol):
     """What the search asks: `Oracle`, or what stands for it."""
 
-    def pose(self, bound: Optional[int], effort: Optional[Effort] = None) -> Question:
-        """Begins to look for a solution of at most this value."""
+    def pose(self, bound: Optional[int], effort: Optional[Effort] = None, has_rival: bool = False) -> Question:
+        """Begins to look for a solution of at most this value, by one more solver where there is a rival."""
 
     def descend(self) -> Optional[Descent]:
         """Has an optimizer look for better and better solutions, if there is one."""
@@ -104,7 +104,8 @@ class Search:
                 place = seeker.choose(lower, upper)
                 if all(one.place != place for one in posed):
                     # Of the bounds that ask the same the greatest: where it is refused, an optimum at the next value rests on just that.
-                    posed.append(_Posed(self._oracle.pose(values.at(place + 1) - 1, seeker.effort), seeker, place))
+                    bound, has_rival = values.at(place + 1) - 1, seeker.effort is None and self._jobs > 1
+                    posed.append(_Posed(self._oracle.pose(bound, seeker.effort, has_rival), seeker, place))
 
     def _end_descent(self, posed: List[_Posed], answer: Answer) -> None:
         """The optimizer has ended. If it finds nothing better, just that is asked from now on."""

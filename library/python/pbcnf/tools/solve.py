@@ -51,12 +51,12 @@ def _run(given: argparse.Namespace) -> int:
     test_output()
     watch = Watch(given.seconds)
     path = program.find(os.environ)
-    solver = solvers.find(given.solver, os.environ, watch)
+    team = solvers.find_team(given.solver, os.environ, watch, not given.unproved)
     problem = options.problem_of(given, _NAME)
     run = None
     try:
         with workspace_of(watch) as workspace:
-            run = _Run(given, path, solver, watch, workspace, problem)
+            run = _Run(given, path, team, watch, workspace, problem)
             return run.run()
     except Interrupted as interrupted:
         if interrupted.signal is not None:
@@ -69,10 +69,10 @@ def _run(given: argparse.Namespace) -> int:
 class _Run:
     """One run of the command over a problem that was read."""
 
-    def __init__(self, given: argparse.Namespace, path: str, solver: solvers.Solver, watch: Watch, workspace: Workspace, problem: bytes) -> None:
+    def __init__(self, given: argparse.Namespace, path: str, team: solvers.Team, watch: Watch, workspace: Workspace, problem: bytes) -> None:
         self._given = given
         self._path = path
-        self._solver = solver
+        self._team = team
         self._watch = watch
         self._workspace = workspace
         self._problem = problem
@@ -98,7 +98,7 @@ class _Run:
 
     def _pose(self, text: bytes) -> Oracle:
         proved = program.Program(self._path, self._watch, self._workspace, text, self._given.opb)
-        return Oracle(proved, options.encodings(self._given, proved), self._solver, self._watch, self._workspace, Progress(_NAME))
+        return Oracle(proved, options.encodings(self._given, proved), self._team, self._watch, self._workspace, Progress(_NAME))
 
     def _print(self, solution: Solution) -> None:
         value = "" if solution.value is None else "o %d\n" % solution.value
@@ -108,13 +108,13 @@ class _Run:
 
     def _end(self, oracle: Oracle) -> int:
         """There is no other solution, by the solver's word, and then by more than that."""
-        is_proved = self._solver.reasons is not None and not self._given.unproved
+        is_proved = self._team.solver.reasons is not None
         if is_proved:
-            oracle.certify(self._bound, self._solver)
+            oracle.certify(self._bound)
         if self.count == 0:
             say("s UNSATISFIABLE\n")
             return Status.NO_SOLUTION
-        say("c %d, and no other%s\n" % (self.count, ", which is refuted" if is_proved else ", by the word of " + self._solver.name))
+        say("c %d, and no other%s\n" % (self.count, ", which is refuted" if is_proved else ", by the word of " + self._team.solver.name))
         return Status.DONE
 
 

@@ -22,6 +22,10 @@ _CONFLICTS = {"cadical": ("-c", "%d"), "kissat": ("--conflicts=%d",), "cryptomin
 _MINISAT = {b"SAT": b"s SATISFIABLE", b"UNSAT": b"s UNSATISFIABLE", b"INDET": b"s UNKNOWN"}
 _MINISAT_FILE = ".minisat"
 PROVER = "cadical"
+# It writes reasons that come with hints, and otherwise finds them later than CaDiCaL.
+RIVAL = "cryptominisat5"
+# So many bytes of reasons a rival may write.
+_ROOM = 1 << 30
 
 
 class Verdict(Enum):
@@ -33,10 +37,14 @@ class Verdict(Enum):
 
 
 class Reasons(Enum):
-    """The format in which a solver writes why a CNF has no model, by the words that ask for it."""
+    """The format in which a solver writes why a CNF has no model, by the words that ask for it.
+
+    Those for CryptoMiniSat leave out the techniques that write clauses without hints, or with too few.
+    """
 
     LRAT = ("--lrat", "--no-binary")
     DRAT = ("--no-binary",)
+    FRAT = ("--distill=0", "--distillbin=0", "--decbased=0", "--bva=0", "--intree=0", "--recur=0", "--schedsimp=0")
 
 
 @dataclass(frozen=True)
@@ -60,15 +68,14 @@ class Files(NamedTuple):
 
 
 class Solver:
-    """A SAT solver, by the words of its command."""
+    """A SAT solver, by the words of its command, and how it writes why there is no model, if it does."""
 
-    def __init__(self, command: List[str], watch: Watch) -> None:
+    def __init__(self, command: List[str], watch: Watch, reasons: Optional[Reasons] = None) -> None:
         self.name = os.path.basename(command[0])
         self._watch = watch
         self._kind = _kind(command)
         self._command = command + [word for word in _WORDS.get(self._kind, ()) if word not in command]
-        self.reasons = _reasons_of(command[0]) if self._kind == PROVER else None
-        """How it writes why there is no model, if it does."""
+        self.reasons = _reasons_of(command[0]) if self._kind == PROVER else reasons
 
     def run(self, files: Files, seconds: Optional[float] = None) -> Run:
         """Runs it to its end, or for so many seconds."""
@@ -91,6 +98,9 @@ class Solver:
         if is_minisat:
             # It writes its values to a second file, in words of its own.
             command.append(files.model + _MINISAT_FILE)
+        if files.reasons and self.reasons is Reasons.FRAT:
+            # The shell counts in blocks of 512 bytes.
+            command = ["/bin/sh", "-c", 'ulimit -c 0; ulimit -f "$0" && exec "$@"', str(_ROOM // 512), *command]
         with open(files.model, "wb") as said:
             try:
                 running = self._watch.start(command, stdout=subprocess.DEVNULL if is_minisat else said.fileno(), seconds=seconds)
@@ -129,6 +139,24 @@ class Run:
         return _verdict(self._model)
 
 
+class Attempt(NamedTuple):
+    """A solver's run over a CNF."""
+
+    solver: Solver
+    files: Files
+    run: Run
+
+
+class Team(NamedTuple):
+    """Who is run."""
+
+    solver: Solver
+    prover: Optional[Solver]
+    """Who says why there is no model: the solver itself, or another, if any does."""
+    rival: Optional[Solver]
+    """Who may say it beside the prover, where that takes long to be checked."""
+
+
 def find(named: Optional[str], environment: Mapping[str, str], watch: Watch) -> Solver:
     """The solver of this command, or of SOLVER, else the first of those known that is on the path."""
     wanted = named or environment.get("SOLVER")
@@ -141,13 +169,32 @@ def find(named: Optional[str], environment: Mapping[str, str], watch: Watch) -> 
     return Solver(command, watch)
 
 
+def find_team(named: Optional[str], environment: Mapping[str, str], watch: Watch, is_proved: bool = True) -> Team:
+    """The solver as `find` finds it, and if it is to be proved that there is no model, those who say why."""
+    solver = find(named, environment, watch)
+    if not is_proved:
+        solver.reasons = None
+        return Team(solver, None, None)
+    prover = solver if solver.reasons else find_prover(named, environment, watch)
+    return Team(solver, prover, find_rival(prover, watch))
+
+
 def find_prover(named: Optional[str], environment: Mapping[str, str], watch: Watch) -> Optional[Solver]:
-    """A solver that says why there is no model: the one that is named, if it does, else CaDiCaL from the path, if it is there."""
+    """A solver that says why there is no model: CaDiCaL by its name here, or from the path, else CryptoMiniSat from the path."""
     for word in (named, environment.get("SOLVER"), PROVER):
         command = word.split() if word else []
         if command and _kind(command) == PROVER and shutil.which(command[0]):
             return Solver(command, watch)
-    return None
+    return _find_rival(watch)
+
+
+def find_rival(prover: Optional[Solver], watch: Watch) -> Optional[Solver]:
+    """CryptoMiniSat from the path, where the prover's reasons have no hints."""
+    return _find_rival(watch) if prover is not None and prover.reasons is Reasons.DRAT else None
+
+
+def _find_rival(watch: Watch) -> Optional[Solver]:
+    return Solver([RIVAL], watch, Reasons.FRAT) if shutil.which(RIVAL) and b"[frat-trim-file]" in _help_of(RIVAL) else None
 
 
 def _kind(command: List[str]) -> str:
@@ -157,11 +204,15 @@ def _kind(command: List[str]) -> str:
 
 def _reasons_of(cadical: str) -> Reasons:
     """How this CaDiCaL writes them: in LRAT from 1.7 on, as its help says."""
+    return Reasons.LRAT if b"--lrat" in _help_of(cadical) else Reasons.DRAT
+
+
+def _help_of(command: str) -> bytes:
+    """What a solver says of itself."""
     try:
-        said = subprocess.run([cadical, "--help"], stdin=subprocess.DEVNULL, stdout=subprocess.PIPE, stderr=subprocess.DEVNULL, check=False).stdout
+        return subprocess.run([command, "--help"], stdin=subprocess.DEVNULL, stdout=subprocess.PIPE, stderr=subprocess.DEVNULL, check=False).stdout
     except OSError:
-        return Reasons.DRAT
-    return Reasons.LRAT if b"--lrat" in said else Reasons.DRAT
+        return b""
 
 
 def _translate_minisat(model: str) -> None:
