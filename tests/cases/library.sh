@@ -159,6 +159,8 @@ try_programs() {
         judged steadily ./rooms
         compile misuse -fsanitize=address,undefined
         judged steadily ./misuse
+        compile columns -fsanitize=address,undefined
+        judged steadily ./columns
     else
         skip "$compiler has no AddressSanitizer"
     fi

@@ -82,6 +82,20 @@ ONE(wide, pbcnf_constraint, int32_t, wide, PBCNF_EQUAL, 11, 1)
 ONE(narrow_derive, pbcnf_constraint_derive, uint8_t, narrow, PBCNF_AT_LEAST, 9, 0)
 ONE(wide_derive, pbcnf_constraint_derive, uint8_t, wide, PBCNF_AT_LEAST, 11, 1)
 
+/* The same terms in three constraints, of which the second has none. */
+static const pbcnf_sum sums[] = {{PBCNF_AT_MOST, 0, 4, 9, 0}, {PBCNF_AT_LEAST, 0, 0, UINT64_MAX, UINT64_MAX}, {PBCNF_EQUAL, 0, 3, 6, 0}};
+
+#define ALL(name, call, type, coefficients) \
+  static void make_##name(const struct problem *p, void *room, size_t count, struct answer *a) { \
+    a->status = call((const uint64_t *)coefficients, COUNT(coefficients), literals, COUNT(literals), sums, COUNT(sums), 20, &p->options, \
+                     (type *)room, count, &a->size, &a->refusal); \
+    a->length = a->size.length; \
+  }
+ALL(many_narrow, pbcnf_constraints, int32_t, narrow)
+ALL(many_wide, pbcnf_constraints, int32_t, wide)
+ALL(many_narrow_derive, pbcnf_constraints_derive, uint8_t, narrow)
+ALL(many_wide_derive, pbcnf_constraints_derive, uint8_t, wide)
+
 static const struct call calls[] = {
     {"encode", 1, make_encode},
     {"clauses", 4, make_clauses},
@@ -95,6 +109,10 @@ static const struct call calls[] = {
     {"constraint, 128 bits", 4, make_wide},
     {"constraint_derive, 64 bits", 1, make_narrow_derive},
     {"constraint_derive, 128 bits", 1, make_wide_derive},
+    {"constraints, 64 bits", 4, make_many_narrow},
+    {"constraints, 128 bits", 4, make_many_wide},
+    {"constraints_derive, 64 bits", 1, make_many_narrow_derive},
+    {"constraints_derive, 128 bits", 1, make_many_wide_derive},
 };
 
 /* Problems of which each call is done, but for decode of one without a solution. */

@@ -177,8 +177,9 @@ static void try_refusals(void) {
   c.sums[0].terms = 3;
   try_blamed(c, PBCNF_USAGE, 0, "pbcnf: usage: a number is out of its range", 8);
   c = three();
+  /* In 64 bits these would be six terms. */
   c.sums[0].terms = UINT64_MAX;
-  c.sums[1].terms = 7;
+  c.sums[1].terms = 5;
   try_blamed(c, PBCNF_USAGE, 0, "pbcnf: usage: a number is out of its range", 9);
   c = three();
   c.words--;
@@ -189,6 +190,34 @@ static void try_refusals(void) {
   c = three();
   c.options.budget = 0;
   try_blamed(c, PBCNF_USAGE, 0, "pbcnf: usage: a number is out of its range", 12);
+  c = three();
+  c.first = (1u << 31) + 1;
+  try_blamed(c, PBCNF_USAGE, 0, "pbcnf: usage: a number is out of its range", 13);
+}
+
+/* Where there are more causes than one, the later constraint is blamed by the earlier of them: counts, relations, literals, weights. */
+static void try_order(void) {
+  struct columns c = three();
+  c.coefficients[1] = (uint64_t)1 << 36;
+  c.literals[2] = 0;
+  try_blamed(c, PBCNF_USAGE, 2, "pbcnf: constraint 2: a number is out of its range", 14);
+  c.sums[2].relation = 3;
+  try_blamed(c, PBCNF_USAGE, 3, "pbcnf: constraint 3: a number is out of its range", 15);
+  c.words++;
+  try_blamed(c, PBCNF_USAGE, 0, "pbcnf: usage: a number is out of its range", 16);
+}
+
+/* Of what all take together no single one is to blame: here the last variable. */
+static void try_totals(void) {
+  struct columns c = three();
+  c.first = 1u << 31;
+  c.options.amo = 2;
+  for (size_t i = 0; i < c.terms; i++) c.coefficients[2 * i] = 1;
+  for (size_t i = 0; i < 2; i++) push_term(&c, 1, (int32_t)i + 5);
+  c.sums[2].relation = PBCNF_AT_MOST;
+  c.sums[2].terms = 4;
+  c.sums[2].right_low = 1;
+  try_blamed(c, PBCNF_LIMIT, 0, "pbcnf: totals: limit variables", 17);
 }
 
 /* One of two is too long. */
@@ -207,9 +236,24 @@ static void try_long(void) {
   free(literals);
 }
 
+/* There is one constraint too many. They have no terms, and are never written to, so that the system keeps one page of zeros for them. */
+static void try_many(void) {
+  const size_t most = (size_t)1 << 24;
+  pbcnf_sum *none = calloc(most + 1, sizeof *none);
+  const pbcnf_options options = PBCNF_OPTIONS_DEFAULT;
+  struct answer a = spoiled();
+  if (!none) return;
+  a.status = pbcnf_constraints(NULL, 0, NULL, 0, none, most + 1, 1, &options, integers, ROOM, &a.size, &a.refusal);
+  judge(a.status == PBCNF_LIMIT && a.refusal.limit == PBCNF_LIMIT_STATEMENTS && a.refusal.number == 0, "too many", "constraints", 21);
+  free(none);
+}
+
 int main(void) {
   try_drawn();
   try_refusals();
+  try_order();
+  try_totals();
   try_long();
+  try_many();
   return conclude();
 }

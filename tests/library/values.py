@@ -6,6 +6,7 @@ It looks for the library as a user's program would. usage: values.py [-v]
 
 import array
 import mmap
+import re
 import tempfile
 import unittest
 
@@ -86,6 +87,7 @@ class Numbers(Cases):
         for kind in kinds:
             terms = [(kind(coefficient), kind(literal)) for coefficient, literal in self.ONE]
             self.assertEqual(pbcnf.constraint(terms, ">=", kind(2), first=kind(3), budget=kind(9)), due)
+            self.assertEqual(pbcnf.constraints(iter([(iter(terms), ">=", kind(2))]), first=kind(3), budget=kind(9)), due)
             self.assertEqual(pbcnf.encode(OPB, at_most=kind(0)), pbcnf.encode(OPB, at_most=0))
             self.assertEqual(pbcnf.decode(OPB, [kind(2)]), pbcnf.decode(OPB, [2]))
 
@@ -94,13 +96,18 @@ class Numbers(Cases):
         self.assertEqual(wide.clauses, [[1, 2]])
         self.assertEqual(self.raises(pbcnf.LimitPassed, pbcnf.constraint, [(1 << 126, 1)], ">=", 1, first=3).limit, "weight")
         for call in (lambda: pbcnf.constraint([(1 << 127, 1)], ">=", 1, first=3), lambda: pbcnf.constraint([(1, 1)], ">=", 1 << 127, first=3),
-                     lambda: pbcnf.encode(OPB, at_most=1 << 200)):
+                     lambda: pbcnf.encode(OPB, at_most=1 << 200), lambda: pbcnf.constraints([([(1 << 127, 1)], ">=", 1)], first=3)):
             self.assertIn("does not fit in 128 bits", str(self.raises(pbcnf.Usage, call)))
+        error = self.raises(pbcnf.Usage, pbcnf.constraints, [([], ">=", 0), ([(1, 1)], ">=", -1 << 128)], first=3)
+        self.assertEqual(str(error), "pbcnf: usage: the right side of constraint 2 does not fit in 128 bits")
 
     def test_what_is_no_whole_number(self):
         for call in (lambda: pbcnf.constraint([(1.0, 1)], ">=", 1, first=2), lambda: pbcnf.constraint([(1, "1")], ">=", 1, first=2),
                      lambda: pbcnf.constraint([(1, 1)], ">=", 1.0, first=2), lambda: pbcnf.constraint([(1, 1)], ">=", 1, first=None),
-                     lambda: pbcnf.encode(OPB, at_most="3"), lambda: pbcnf.encode(OPB, budget=1e3)):
+                     lambda: pbcnf.encode(OPB, at_most="3"), lambda: pbcnf.encode(OPB, budget=1e3),
+                     lambda: pbcnf.constraints([([(1.0, 1)], ">=", 1)], first=2), lambda: pbcnf.constraints([([(1, "1")], ">=", 1)], first=2),
+                     lambda: pbcnf.constraints([([(1, 1)], ">=", None)], first=2), lambda: pbcnf.constraints([([(1, 1)], ">=", 1)], first="2"),
+                     lambda: pbcnf.constraints([None], first=2)):
             self.raises(TypeError, call)
 
     def test_usage_says_which_number(self):
@@ -117,6 +124,9 @@ class Numbers(Cases):
             for call in (pbcnf.constraint, pbcnf.derive_constraint):
                 error = self.raises(pbcnf.Usage, call, terms, ">=", 1, first=first, **chosen)
                 self.assertEqual((str(error), error.status), ("pbcnf: usage: " + due, 2))
+            for call in (pbcnf.constraints, pbcnf.derive_constraints):
+                error = self.raises(pbcnf.Usage, call, [([], "=", 0), (terms, ">=", 1)], first=first, **chosen)
+                self.assertEqual(str(error), "pbcnf: usage: " + re.sub(r"(term \d)", r"\1 of constraint 2", due))
         self.assertIn("relation", str(self.raises(pbcnf.Usage, pbcnf.constraint, [(1, 1)], ">", 1, first=2)))
 
     def test_no_budget_is_cut(self):
@@ -133,6 +143,8 @@ class Options(Cases):
             self.raises(TypeError, call, *given, sorter=1)
         for call in (pbcnf.constraint, pbcnf.derive_constraint):
             self.raises(TypeError, call, *one, first=2, table=True)
+        for call in (pbcnf.constraints, pbcnf.derive_constraints):
+            self.raises(TypeError, call, [one], first=2, table=True)
         for call in (pbcnf.bounds, pbcnf.wcnf):
             self.raises(TypeError, call, OPB, table=False)
 

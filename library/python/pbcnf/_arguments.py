@@ -151,12 +151,17 @@ def posed_all(constraints: Iterable[Tuple[Iterable[Tuple[int, int]], str, int]],
         for coefficient, literal in terms:
             coefficients.append(coefficient)
             literals.append(literal)
-        if relation not in RELATIONS:
-            raise usage("the relation of constraint %d is %r, and not one of >=, <= and =" % (len(sums) + 1, relation))
-        sums.append(SUM.pack(RELATIONS[relation], 0, len(literals) - before, *_words(index(right), "the right side")))
+        sums.append(_packed(len(sums) + 1, len(literals) - before, relation, right))
     words, numbers = _coefficients(coefficients), _literals(literals)
     given = [_Block(words), len(words), _Block(numbers), len(numbers), b"".join(sums), len(sums), _within(index(first)), options_of(chosen)]
     return Posed(given, len(literals), lambda: _usage_of_all(sums, [index(literal) for literal in literals], index(first), chosen))
+
+
+def _packed(number: int, terms: int, relation: str, right: int) -> bytes:
+    """What stands beside the terms of the constraint of this number."""
+    if relation not in RELATIONS:
+        raise usage("the relation of constraint %d is %r, and not one of >=, <= and =" % (number, relation))
+    return SUM.pack(RELATIONS[relation], 0, terms, *_words(index(right), "the right side of constraint %d" % number))
 
 
 def _coefficients(values: List[int]) -> array[int]:
