@@ -24,7 +24,7 @@ missing() {
     if grep -Eq '/page/local/|(^|[ /])first[./]' "$1"; then
         [ -f page/local/lib/libpbcnf.a ] || printf 'built library '
         ! grep -q venv "$1" || python3 -c 'import ensurepip, venv' 2>"$state/venv" || printf 'venv of python3 '
-        for tool in c++ cargo python3; do
+        for tool in c++ cmake cargo python3; do
             has $tool || ! grep -Fq "$tool " "$1" || printf '%s ' $tool
         done
     fi

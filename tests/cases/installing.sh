@@ -39,7 +39,7 @@ make_copy() {
     rm -- "${built[@]}"
     cp -- "$top/install" "$copy"
     cp -R -- "$examples" "$top/docs" "$copy"
-    cp -R -- "$top"/library/pbcnf.h{,pp} "$top/library/python" "$copy/library"
+    cp -R -- "$top"/library/pbcnf{.h,.hpp,-config.cmake,-config-version.cmake} "$top/library/python" "$copy/library"
     touch -d '2020-01-02' "$shipped"/*
     keep
 }
@@ -50,7 +50,8 @@ for command in $commands; do
     program_files+=(bin/pbcnf-$command share/man/man1/pbcnf-$command.1 share/bash-completion/completions/pbcnf-$command)
 done
 for module in $modules; do program_files+=("share/pbcnf/pbcnf/$module"); done
-library_files=(include/pbcnf.h{,pp} lib/libpbcnf.a lib/libpbcnf.so{,.0} lib/pkgconfig/pbcnf.pc)
+library_files=(include/pbcnf.h{,pp} lib/libpbcnf.a lib/libpbcnf.so{,.0} lib/pkgconfig/pbcnf.pc
+    lib/cmake/pbcnf/pbcnf-config{,-version}.cmake)
 
 # All of the release, over what was there before too, and away again.
 try_release() {

@@ -51,6 +51,7 @@ try_install() {
 print(*sorted({line.split(maxsplit=5)[5] for line in open("/proc/self/maps") if "libpbcnf" in line}), end="")'
         says "$(cat "$top/VERSION") [[1]]" "$prefix/lib/libpbcnf.so.0"
     fi
+    try_cmake "$prefix"
     if ! has pkg-config; then
         skip 'there is no pkg-config'
         return
@@ -65,6 +66,36 @@ print(*sorted({line.split(maxsplit=5)[5] for line in open("/proc/self/maps") if 
     printf '%s\n' "${flags[@]}" >"$said"
     same "$state/due" "$said"
     [ -z "$compiler" ] || try_links "$prefix" "${flags[@]}"
+}
+
+# try_cmake PREFIX: a project of CMake's finds what was put: by this version, and by no other.
+try_cmake() {
+    local version line asked
+    version=$(cat "$top/VERSION")
+    line=${version%.*}
+    mkdir nothing project
+    text nothing/CMakeLists.txt 'cmake_minimum_required(VERSION 3.13)' 'project(nothing C)'
+    if ! has cmake || ! cmake -S nothing -B nothing/built >"$said" 2>&1; then
+        skip 'there is no cmake, or it has no compiler to build with'
+        return
+    fi
+    text project/one.c '#include <pbcnf.h>' '#include <stdio.h>' \
+        'int main(void) { return printf("%s\n", PBCNF_VERSION) < 0 || pbcnf_abi() != PBCNF_ABI; }'
+    text project/CMakeLists.txt 'cmake_minimum_required(VERSION 3.13)' 'project(one C)' 'find_package(pbcnf ${asked} REQUIRED)' \
+        'find_package(pbcnf)' 'foreach(kind pbcnf static)' '  add_executable(${kind} one.c)' \
+        '  target_link_libraries(${kind} PRIVATE pbcnf::${kind})' 'endforeach()'
+    for asked in '' "$line" "$version"; do
+        expect 0 cmake -S project -B built -DCMAKE_PREFIX_PATH="$1" -Dasked="$asked"
+    done
+    expect 0 cmake --build built
+    for asked in pbcnf static; do
+        expect 0 built/$asked
+        says "$version"
+    done
+    for asked in 0.0.1 "$line.999" "${line%.*}.$((${line#*.} + 1))" $((${version%%.*} + 1)); do
+        expect 1 cmake -S project -B "other-$asked" -DCMAKE_PREFIX_PATH="$1" -Dasked="$asked"
+        told_of "pbcnf-config.cmake, version: $version"
+    done
 }
 
 # try_links PREFIX FLAG..: a program in C over the header, with the shared library and with the archive.

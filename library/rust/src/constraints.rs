@@ -183,6 +183,14 @@ impl Constraints {
     }
 }
 
+impl<'a> FromIterator<Constraint<'a>> for Constraints {
+    fn from_iter<I: IntoIterator<Item = Constraint<'a>>>(constraints: I) -> Constraints {
+        let mut all = Constraints::new();
+        all.extend(constraints);
+        all
+    }
+}
+
 impl<'a> Extend<Constraint<'a>> for Constraints {
     fn extend<I: IntoIterator<Item = Constraint<'a>>>(&mut self, constraints: I) {
         for constraint in constraints {

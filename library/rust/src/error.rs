@@ -173,7 +173,7 @@ impl Error {
         self.status
     }
 
-    /// Which of many constraints is to blame for a limit, counted from 0, if one is.
+    /// Which of many constraints is to blame, counted from 0, if a single one is.
     pub fn constraint(&self) -> Option<usize> {
         self.constraint
     }

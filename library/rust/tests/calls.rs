@@ -258,7 +258,8 @@ fn many_constraints() {
     assert_eq!(made.integers(), [one.integers(), other.integers()].concat());
     assert_eq!((made.original(), made.next_free()), (8, other.next_free()));
     let mut encoder = Encoder::new(options);
-    let lent = encoder.constraints(&both, 9).unwrap();
+    let collected: Constraints = [first, second].into_iter().collect();
+    let lent = encoder.constraints(&collected, 9).unwrap();
     assert_eq!(lent.integers(), made.integers());
     let text =
         b"* #variable= 8 #constraint= 2\n+1 x1 +1 ~x2 +1 x3 <= 1 ;\n+2 x4 +3 x5 -4 ~x6 = 1 ;\n";
@@ -271,7 +272,10 @@ fn many_constraints() {
         literal: lit(5),
         first: 5,
     };
-    assert_eq!(low.kind(), Kind::Usage(mistake));
+    assert_eq!(
+        (low.kind(), low.constraint()),
+        (Kind::Usage(mistake), Some(1))
+    );
     assert_eq!(
         low.to_string(),
         "pbcnf: usage: the literal of term 2 of constraint 2 is 5, and not of a variable from 1 to 4"
