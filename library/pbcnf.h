@@ -15,7 +15,7 @@
  *    written. It is aligned for its type. It may be null, or any other, if its count is 0; then nobody looks at it. (That holds
  *    of this header, by the fronts at its end. Who calls the exports by their names from elsewhere passes an address always.)
  *    A pointer to a struct or a number is never null;
- *  - what a call writes (room, size, length, count, refusal) overlaps nothing else that is passed to it. What it only reads
+ *  - what a call writes (room, size, length, refusal) overlaps nothing else that is passed to it. What it only reads
  *    may overlap;
  *  - malloc, realloc and free are those of one allocator, and no call is made from where they must not be: a signal handler, or
  *    the forked child of a process with several threads. In such a child glibc's malloc works, and so do the calls over it.
@@ -305,9 +305,20 @@ static inline void pbcnf_add_all(const int32_t *integers, uint64_t length, void 
 }
 
 /* ---- fronts. An empty vector has no address, and a slice of the library always has one: so each call is made by a function that
- * stands before it under its name, and that puts an address in the place of a pointer whose count is 0. With PBCNF_EXPORTS defined
- * before this header is included there are none, and the calls are the exports alone. */
+ * stands before it under its name, and that puts an address in the place of a pointer whose count is 0. They tell the compiler too what
+ * the caller owes. With PBCNF_EXPORTS defined before this header is included there are none, and the calls are the exports alone. */
 #ifndef PBCNF_EXPORTS
+
+/* That the status is to be looked at; at which places, from 1, no pointer is null; and that what is written overlaps nothing else. */
+#ifdef __GNUC__
+#define PBCNF_NODISCARD __attribute__((warn_unused_result))
+#define PBCNF_NONNULL(...) __attribute__((nonnull(__VA_ARGS__)))
+#define PBCNF_RESTRICT __restrict
+#else
+#define PBCNF_NODISCARD
+#define PBCNF_NONNULL(...)
+#define PBCNF_RESTRICT
+#endif
 
 #define PBCNF_FRONT(name, array, item) \
   static inline array *name(array *pointer, size_t count) { \
@@ -325,8 +336,10 @@ PBCNF_FRONT(pbcnf_sums_front, const pbcnf_sum, pbcnf_sum)
 
 /* A call over a problem. */
 #define PBCNF_FRONT(name, item, front) \
-  static inline uint8_t name##_front(const uint8_t *opb, size_t opb_len, const pbcnf_options *options, const pbcnf_bound *bound, \
-                                     item *put, size_t room, pbcnf_size *size, pbcnf_refusal *refusal) { \
+  PBCNF_NODISCARD PBCNF_NONNULL(3, 4, 7, 8) \
+  static inline uint8_t name##_front(const uint8_t *opb, size_t opb_len, const pbcnf_options *options, \
+                                     const pbcnf_bound *bound, item *PBCNF_RESTRICT put, size_t room, \
+                                     pbcnf_size *PBCNF_RESTRICT size, pbcnf_refusal *PBCNF_RESTRICT refusal) { \
     return name(pbcnf_text_front(opb, opb_len), opb_len, options, bound, front(put, room), room, size, refusal); \
   }
 PBCNF_FRONT(pbcnf_encode, uint8_t, pbcnf_bytes_front)
@@ -338,9 +351,10 @@ PBCNF_FRONT(pbcnf_wcnf, uint8_t, pbcnf_bytes_front)
 
 /* A call over one constraint. */
 #define PBCNF_FRONT(name, item, front) \
+  PBCNF_NODISCARD PBCNF_NONNULL(5, 6, 9, 10) \
   static inline uint8_t name##_front(const uint64_t *coefficients, size_t words, const int32_t *literals, size_t count, \
-                                     const pbcnf_side *side, const pbcnf_options *options, item *put, size_t room, \
-                                     pbcnf_size *size, pbcnf_refusal *refusal) { \
+                                     const pbcnf_side *side, const pbcnf_options *options, item *PBCNF_RESTRICT put, \
+                                     size_t room, pbcnf_size *PBCNF_RESTRICT size, pbcnf_refusal *PBCNF_RESTRICT refusal) { \
     return name(pbcnf_coefficients_front(coefficients, words), words, pbcnf_literals_front(literals, count), count, side, options, \
                 front(put, room), room, size, refusal); \
   }
@@ -350,9 +364,11 @@ PBCNF_FRONT(pbcnf_constraint_derive, uint8_t, pbcnf_bytes_front)
 
 /* A call over many. */
 #define PBCNF_FRONT(name, item, front) \
+  PBCNF_NODISCARD PBCNF_NONNULL(8, 11, 12) \
   static inline uint8_t name##_front(const uint64_t *coefficients, size_t words, const int32_t *literals, size_t count, \
                                      const pbcnf_sum *sums, size_t constraints, uint32_t first, const pbcnf_options *options, \
-                                     item *put, size_t room, pbcnf_size *size, pbcnf_refusal *refusal) { \
+                                     item *PBCNF_RESTRICT put, size_t room, pbcnf_size *PBCNF_RESTRICT size, \
+                                     pbcnf_refusal *PBCNF_RESTRICT refusal) { \
     return name(pbcnf_coefficients_front(coefficients, words), words, pbcnf_literals_front(literals, count), count, \
                 pbcnf_sums_front(sums, constraints), constraints, first, options, front(put, room), room, size, refusal); \
   }
@@ -360,29 +376,41 @@ PBCNF_FRONT(pbcnf_constraints, int32_t, pbcnf_integers_front)
 PBCNF_FRONT(pbcnf_constraints_derive, uint8_t, pbcnf_bytes_front)
 #undef PBCNF_FRONT
 
+PBCNF_NODISCARD PBCNF_NONNULL(3, 8, 9)
 static inline uint8_t pbcnf_decode_front(const uint8_t *opb, size_t opb_len, const pbcnf_bound *bound, const uint8_t *model,
-                                         size_t model_len, uint8_t *said, size_t room, uint64_t *length, pbcnf_refusal *refusal) {
+                                         size_t model_len, uint8_t *PBCNF_RESTRICT said, size_t room,
+                                         uint64_t *PBCNF_RESTRICT length, pbcnf_refusal *PBCNF_RESTRICT refusal) {
   return pbcnf_decode(pbcnf_text_front(opb, opb_len), opb_len, bound, pbcnf_text_front(model, model_len), model_len,
                       pbcnf_bytes_front(said, room), room, length, refusal);
 }
-static inline uint8_t pbcnf_map_front(const uint8_t *opb, size_t opb_len, uint8_t *said, size_t room, uint64_t *length,
-                                      pbcnf_refusal *refusal) {
+PBCNF_NODISCARD PBCNF_NONNULL(5, 6)
+static inline uint8_t pbcnf_map_front(const uint8_t *opb, size_t opb_len, uint8_t *PBCNF_RESTRICT said, size_t room,
+                                      uint64_t *PBCNF_RESTRICT length, pbcnf_refusal *PBCNF_RESTRICT refusal) {
   return pbcnf_map(pbcnf_text_front(opb, opb_len), opb_len, pbcnf_bytes_front(said, room), room, length, refusal);
 }
+PBCNF_NODISCARD PBCNF_NONNULL(3, 8)
 static inline uint8_t pbcnf_check_front(const uint8_t *opb, size_t opb_len, const pbcnf_bound *bound, const uint8_t *cnf,
-                                        size_t cnf_len, const uint8_t *proof, size_t proof_len, pbcnf_refusal *refusal) {
+                                        size_t cnf_len, const uint8_t *proof, size_t proof_len,
+                                        pbcnf_refusal *PBCNF_RESTRICT refusal) {
   return pbcnf_check(pbcnf_text_front(opb, opb_len), opb_len, bound, pbcnf_text_front(cnf, cnf_len), cnf_len,
                      pbcnf_text_front(proof, proof_len), proof_len, refusal);
 }
+PBCNF_NODISCARD PBCNF_NONNULL(3, 10)
 static inline uint8_t pbcnf_refute_front(const uint8_t *opb, size_t opb_len, const pbcnf_bound *bound, const uint8_t *cnf,
                                          size_t cnf_len, const uint8_t *proof, size_t proof_len, const uint8_t *lrat,
-                                         size_t lrat_len, pbcnf_refusal *refusal) {
+                                         size_t lrat_len, pbcnf_refusal *PBCNF_RESTRICT refusal) {
   return pbcnf_refute(pbcnf_text_front(opb, opb_len), opb_len, bound, pbcnf_text_front(cnf, cnf_len), cnf_len,
                       pbcnf_text_front(proof, proof_len), proof_len, pbcnf_text_front(lrat, lrat_len), lrat_len, refusal);
 }
-static inline uint8_t pbcnf_words_front(const pbcnf_refusal *refusal, uint8_t *said, size_t room, uint64_t *length) {
+PBCNF_NONNULL(1, 4)
+static inline uint8_t pbcnf_words_front(const pbcnf_refusal *refusal, uint8_t *PBCNF_RESTRICT said, size_t room,
+                                        uint64_t *PBCNF_RESTRICT length) {
   return pbcnf_words(refusal, pbcnf_bytes_front(said, room), room, length);
 }
+
+#undef PBCNF_NODISCARD
+#undef PBCNF_NONNULL
+#undef PBCNF_RESTRICT
 
 #define pbcnf_encode pbcnf_encode_front
 #define pbcnf_clauses pbcnf_clauses_front

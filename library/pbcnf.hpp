@@ -174,10 +174,6 @@ Room filled(Room room, Call call) {
   return room;
 }
 
-inline void judge(const pbcnf_refusal &refusal) {
-  if (refusal.status != PBCNF_DONE) throw Error(refusal);
-}
-
 /* The words of numbers, the low one first, as the library takes them. */
 inline std::vector<std::uint64_t> words(const std::vector<Number> &numbers) {
   std::vector<std::uint64_t> both;
@@ -316,8 +312,9 @@ inline void check(std::string_view opb, std::string_view cnf, std::string_view p
   detail::judge_library();
   const pbcnf_bound bound = detail::bound(at_most);
   pbcnf_refusal refusal;
-  pbcnf_check(detail::bytes(opb), opb.size(), &bound, detail::bytes(cnf), cnf.size(), detail::bytes(proof), proof.size(), &refusal);
-  detail::judge(refusal);
+  const std::uint8_t status =
+      pbcnf_check(detail::bytes(opb), opb.size(), &bound, detail::bytes(cnf), cnf.size(), detail::bytes(proof), proof.size(), &refusal);
+  if (status != PBCNF_DONE) throw Error(refusal);
 }
 
 /* Throws unless these show that a problem has no solution: the derivation as in `check`, and the refutation, in the LRAT format. */
@@ -326,9 +323,9 @@ inline void refute(std::string_view opb, std::string_view cnf, std::string_view 
   detail::judge_library();
   const pbcnf_bound bound = detail::bound(at_most);
   pbcnf_refusal refusal;
-  pbcnf_refute(detail::bytes(opb), opb.size(), &bound, detail::bytes(cnf), cnf.size(), detail::bytes(proof), proof.size(),
-               detail::bytes(lrat), lrat.size(), &refusal);
-  detail::judge(refusal);
+  const std::uint8_t status = pbcnf_refute(detail::bytes(opb), opb.size(), &bound, detail::bytes(cnf), cnf.size(), detail::bytes(proof),
+                                           proof.size(), detail::bytes(lrat), lrat.size(), &refusal);
+  if (status != PBCNF_DONE) throw Error(refusal);
 }
 
 /* ---- one constraint at a time: nothing is kept between calls but the first variable that is still free */

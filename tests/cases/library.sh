@@ -62,6 +62,26 @@ try_header() {
     fi
 }
 
+# careless BODY STATUS [WARNING]: how the compiler ends over a call that is made so, and of what it warns.
+careless() {
+    text careless.c '#include "pbcnf.h"' 'uint8_t call(const uint8_t *, const pbcnf_options *, const pbcnf_bound *, uint8_t *, pbcnf_size *, pbcnf_refusal *);' \
+        'uint8_t call(const uint8_t *opb, const pbcnf_options *options, const pbcnf_bound *bound, uint8_t *cnf, pbcnf_size *size, pbcnf_refusal *refusal) {' "$1" '}'
+    expect "$2" "$compiler" -std=c11 -Wall -Werror -I "$library" -c careless.c -o careless.o
+    [ $# -eq 2 ] || told_of "$3"
+}
+
+# The header tells compilers what the caller owes.
+try_warnings() {
+    careless 'return pbcnf_encode(opb, 1, options, bound, cnf, 1, size, refusal);' 0
+    careless 'pbcnf_encode(opb, 1, options, bound, cnf, 1, size, refusal); return refusal->status;' 1 unused-result
+    careless 'return pbcnf_encode(opb, 1, NULL, bound, cnf, 1, size, refusal);' 1 nonnull
+    if "$compiler" -Wrestrict -Werror -c alone.c -I "$library" -o alone.o 2>"$state/cc"; then
+        careless 'return pbcnf_encode(cnf, 1, options, bound, cnf, 1, size, refusal);' 1 restrict
+    else
+        skip "$compiler has no warning of what overlaps"
+    fi
+}
+
 # restate HEADER: the exports that the sources have, held against a header in this folder.
 restate() {
     mkdir -p changed
@@ -92,7 +112,7 @@ try_signatures() {
     declared >declared
     same exported declared
     # No compiler counts an enumerator: a variant that is put in the middle moves none.
-    grep -E '^ *(enum \{ )?PBCNF_[A-Z_]+,?( |$)' "$library/pbcnf.h" | grep -v = >uncounted
+    grep -E '^ *(enum \{ )?PBCNF_[A-Z_]+,?( |$)' "$library/pbcnf.h" | grep -v -e = -e ' PBCNF_NONNULL(' >uncounted
     holds uncounted
     "$own/signatures" --constants EXPECTED "$library/pbcnf.h" >expected.h
     "$own/signatures" --constants LIMIT "$library/pbcnf.h" >limits.h
@@ -183,6 +203,7 @@ try_bytes() {
 
 if [ -n "$compiler" ]; then
     try_header
+    try_warnings
     try_signatures
     try_interface
     try_programs

@@ -68,7 +68,7 @@ static void try_words(void) {
   uint8_t room[160], *exact, *scant;
   uint64_t length = 9, again = 9;
   static const char words[] = "pbcnf: OPB 1:10: expected an integer";
-  pbcnf_encode((const uint8_t *)"+1 x1 >= ;", 10, &options, &bound, room, sizeof room, &size, &r);
+  judge(pbcnf_encode((const uint8_t *)"+1 x1 >= ;", 10, &options, &bound, room, sizeof room, &size, &r) == PBCNF_REFUSED, "no text", "encode", 0);
   memset(room, 0xa5, sizeof room);
   judge(pbcnf_words(&r, room, sizeof room, &length) == PBCNF_DONE && length == strlen(words), "all words are put", "words", 0);
   judge(memcmp(room, words, strlen(words)) == 0 && is_untouched(room, length, sizeof room), "just these", "words", 0);
@@ -82,7 +82,7 @@ static void try_words(void) {
   judge(pbcnf_words(&r, room, 0, &again) == PBCNF_NO_ROOM && again == length, "an empty room", "words", 0);
   r.expected = 999;
   judge(pbcnf_words(&r, room, sizeof room, &again) == PBCNF_USAGE && again == 0, "numbers that no call fills in", "words", 0);
-  pbcnf_encode((const uint8_t *)"", 0, &options, &bound, room, sizeof room, &size, &r);
+  judge(pbcnf_encode((const uint8_t *)"", 0, &options, &bound, room, sizeof room, &size, &r) == PBCNF_DONE, "an empty text", "encode", 0);
   judge(pbcnf_words(&r, room, sizeof room, &again) == PBCNF_DONE && again == 0, "no words where all was done", "words", 0);
   free(exact);
   free(scant);

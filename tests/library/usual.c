@@ -28,16 +28,17 @@ static uint32_t blamed(size_t which) {
   pbcnf_refusal r = {0};
   uint8_t room[64];
   uint64_t length = 0;
+  uint8_t status;
   if (which == 3) {
-    pbcnf_decode(good, sizeof good - 1, &none, bad, 1, room, sizeof room, &length, &r);
+    status = pbcnf_decode(good, sizeof good - 1, &none, bad, 1, room, sizeof room, &length, &r);
   } else {
     const uint8_t *all[] = {good, cnf, proof, bad, bad};
     size_t sizes[] = {sizeof good - 1, sizeof cnf - 1, sizeof proof - 1, 1, 1};
     all[which] = bad;
     sizes[which] = 1;
-    pbcnf_refute(all[0], sizes[0], &none, all[1], sizes[1], all[2], sizes[2], all[4], sizes[4], &r);
+    status = pbcnf_refute(all[0], sizes[0], &none, all[1], sizes[1], all[2], sizes[2], all[4], sizes[4], &r);
   }
-  return r.status == PBCNF_REFUSED ? r.file : PBCNF_FILE_NONE;
+  return status == PBCNF_REFUSED ? r.file : PBCNF_FILE_NONE;
 }
 
 /* Prints the CNF text of the problem in a file; whether that went well. */
