@@ -70,6 +70,11 @@ def memory_of(words):
     return most
 
 
+def memory_of_long(run, words):
+    """The same, of a command that was run; of one of a few milliseconds the system tells nothing that holds."""
+    return memory_of(words) if run.is_done() and run.seconds >= 0.01 else None
+
+
 def instructions_of(words):
     """How many instructions a run of the command takes by callgrind, or None where it does not end well."""
     counted = ["valgrind", "--tool=callgrind", "--callgrind-out-file=/dev/null", *words]

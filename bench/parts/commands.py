@@ -9,8 +9,9 @@ import refutations
 import report
 import timing
 
-HEAD = ["command", "of", "it reads", "pbcnf", "C", "ratio"]
+HEAD = ["command", "of", "it reads", "pbcnf", "C", "ratio", "memory", "of C", "ratio"]
 COUNTED = ["instructions", "of C", "ratio"]
+SAYS = "\nMemory is the most that is resident, of commands that take ten milliseconds or more.\n"
 COMMANDS = ("encode", "check", "probe", "refute")
 
 
@@ -24,6 +25,7 @@ class Row:
         commands = {name: words for name, words in commands.items() if words}
         runs = timing.side_by_side(commands, bench.runs)
         self.own, self.c = self.difference({name: report.time_of(run) for name, run in runs.items()})
+        self.own_memory, self.c_memory = (timing.memory_of_long(runs[name], commands[name]) if name in runs else None for name in ("own", "C"))
         self.own_count = self.c_count = None
         if bench.counts_instructions and self.own is not None and self.c is not None:
             self.own_count, self.c_count = self.difference({name: timing.instructions_of(words) for name, words in commands.items()})
@@ -36,8 +38,9 @@ class Row:
 
     def cells(self, counts):
         times = [report.time(self.own), report.time(self.c), report.ratio(self.own, self.c)]
+        memory = [report.memory(self.own_memory), report.memory(self.c_memory), report.ratio(self.own_memory, self.c_memory)]
         counted = [report.count(self.own_count), report.count(self.c_count), report.ratio(self.own_count, self.c_count)]
-        return [self.command, self.name, report.count_of_bytes(self.reads), *times, *(counted if counts else [])]
+        return [self.command, self.name, report.count_of_bytes(self.reads), *times, *memory, *(counted if counts else [])]
 
 
 def rows_of_problem(bench, name, problem):
@@ -93,4 +96,4 @@ def section(bench):
     measured.sort(key=lambda row: COMMANDS.index(row.command))
     head = HEAD + COUNTED if bench.counts_instructions else HEAD
     text = report.table(head, (row.cells(bench.counts_instructions) for row in measured))
-    return report.Section(text, drawn(measured), faults)
+    return report.Section(text + SAYS, drawn(measured), faults)

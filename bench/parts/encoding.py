@@ -27,7 +27,7 @@ class Measures:
         self.opb = len(text)
         self.measure_encoders(bench, text)
         self.cnf = timing.size(cnf)
-        self.memory = long_memory(self.encode, [bench.program, "encode", opb, cnf])
+        self.memory = timing.memory_of_long(self.encode, [bench.program, "encode", opb, cnf])
         if self.encode.is_done():
             self.measure_copy(bench)
             self.measure_derivation(bench)
@@ -58,7 +58,7 @@ class Measures:
         if self.derive.is_done():
             words = [bench.program, "check", *files]
             self.check = timing.side_by_side({"": words}, bench.runs)[""]
-            self.check_memory = long_memory(self.check, words)
+            self.check_memory = timing.memory_of_long(self.check, words)
             if self.check.status:
                 self.faults.append("%s: the derivation is not accepted" % self.name)
 
@@ -71,11 +71,6 @@ class Measures:
         return [self.name, report.count_of_bytes(self.opb), report.count_of_bytes(self.cnf), report.time(own), report.memory(self.memory),
                 report.time(c), report.ratio(own, c), report.time(minisat_plus), report.ratio(own, minisat_plus), report.time(copy),
                 report.time(derive), report.count_of_bytes(self.proof), check, memory]
-
-
-def long_memory(run, words):
-    """What the command has in memory; of one of a few milliseconds the system tells nothing that holds."""
-    return timing.memory_of(words) if run.is_done() and run.seconds >= 0.01 else None
 
 
 def points(measured, across, upwards):
