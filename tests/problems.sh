@@ -38,6 +38,18 @@ long() {
     awk -v n="$1" 'BEGIN { for (i = 1; i <= n; i++) printf "+%d x%d ", i % 7 + 1, i; printf ">= %d ;\n", n }' >long.opb
 }
 
+# One sum of so many weights, drawn up to 1,000, whose diagram has wide levels.
+weights() {
+    awk -v n="$1" 'BEGIN {
+        for (s = i = 1; i <= n; i++) {
+            s = s * 16807 % 2147483647
+            sum += s % 1000 + 1
+            printf "+%d x%d ", s % 1000 + 1, i
+        }
+        printf ">= %d ;\n", sum / 2
+    }' >weights.opb
+}
+
 # A chain of implications from x1 on: as a CNF, the last one first; as a problem that has no solution; and its refutation, in which each
 # clause is deleted once the next one stands.
 chain() {
@@ -82,6 +94,44 @@ undone() {
     }' >undone.lrat
 }
 
+# So many pairs of statements, from each of which a unit follows. It is derived without ids, and deleted right behind.
+pairs() {
+    awk -v n="$1" 'BEGIN {
+        printf "p cnf %d %d\n", 2 * n, 2 * n >"pairs.cnf"
+        printf "pseudo-Boolean derivation profile 1\nf %d\n", 2 * n >"pairs.proof"
+        for (i = 1; i <= n; i++) {
+            print "+1 x" i " +1 x" n + i " >= 1 ;\n+1 ~x" i " +1 x" n + i " >= 1 ;" >"pairs.opb"
+            printf "%d %d 0\n-%d %d 0\n", i, n + i, i, n + i >"pairs.cnf"
+            print "rup +1 x" n + i " >= 1 ;\ndel", 2 * n + i >"pairs.proof"
+        }
+        for (i = 1; i <= 2 * n; i++) print "out", i >"pairs.proof"
+        print "end" >"pairs.proof"
+    }'
+}
+
+# Groups of a hundred fresh variables, so many: over each group stand 64 clauses at a time, of which none is left.
+grouped() {
+    short grouped
+    awk -v n="$1" 'BEGIN { printf "p cnf %d 3\n1 2 0\n-1 0\n-2 0\n", 2 + 100 * n }' >grouped.cnf
+    awk -v n="$1" '
+        /^out 1/ {
+            id = 3
+            for (group = 0; group < n; group++) {
+                clause = "rup"
+                for (v = 3 + 100 * group; v < 103 + 100 * group; v++) {
+                    printf "red +1 x%d >= 1 ; x%d -> 1\n", v, v
+                    clause = clause " +1 x" v
+                }
+                clause = clause " >= 1 ; " id + 1
+                id += 100
+                for (i = 0; i < 64; i++) print clause
+                for (id += 64; i > 0; i--) print "del", id - 64 + i
+            }
+        }
+        { print }' grouped.proof >grouped.long
+    mv grouped.long grouped.proof
+}
+
 # So many blanks in one line of the derivation, and of the refutation.
 blanks() {
     short blanks
@@ -89,6 +139,19 @@ blanks() {
     mv blanks.long blanks.proof
     awk -v n="$1" '{ while (n-- > 0) printf " "; print }' blanks.lrat >blanks.long
     mv blanks.long blanks.lrat
+}
+
+# So many terms in one line of the derivation.
+wide() {
+    short wide
+    awk -v n="$1" '{ print } /^f/ { printf "rup"; while (n-- > 0) printf " +1 x%d", n % 2 + 1; print " >= 1 ; 1" }' wide.proof >wide.long
+    mv wide.long wide.proof
+}
+
+# So many hints in one line of the refutation.
+hints() {
+    short hints
+    awk -v n="$1" 'BEGIN { printf "4 0"; while (n-- > 0) printf " 2"; print " 3 1 0" }' >hints.lrat
 }
 
 # A literal for each of so many variables, all of one clause, to propagate from.

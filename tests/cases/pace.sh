@@ -60,6 +60,7 @@ keeps_pace long 3000 derive check
 keeps_pace long 60000 encode
 keeps_pace chain 60000 probe derive refute
 keeps_pace steps 100000 check
+keeps_pace pairs 1000 check
 keeps_pace undone 100000 refute
 keeps_pace blanks 4000000 check refute
 keeps_pace drawn 10000 bench
