@@ -1,6 +1,7 @@
 """A SAT solver for tests, called as CaDiCaL is: a search tree with unit propagation, which writes LRAT; and it may be told to fail.
 
-The environment's STUB_CALLS names a file that gets a line for each call. Where its STUB_FORMAT is `drat` it writes DRAT, as older ones do. From the call of the number STUB_FROM on it does what
+The environment's STUB_CALLS names a file that gets a line for each call. Where its STUB_FORMAT is `drat` it writes DRAT, as older ones do, and
+where that is `frat` FRAT, as CryptoMiniSat does. From the call of the number STUB_FROM on it does what
 STUB_DOES says: `hang`, `stubborn` (hang, and stay at SIGTERM), `lie` (say that there is no model), `crash`, or `give-up`.
 """
 
@@ -61,9 +62,18 @@ class Tree:
         return None, self.learn(negated, refused)
 
 
-def _without_hints(line):
-    words = line.split()[1:]
-    return " ".join(words[:words.index("0") + 1]) + "\n"
+def _refutation(tree, format):
+    """The text of it: in LRAT it is the tree's own, in DRAT without hints, in FRAT with the last hints first."""
+    if format == "lrat":
+        return "".join(line + "\n" for line in tree.lines)
+    lines = []
+    for line in tree.lines:
+        words = line.split()
+        end = words.index("0")
+        lines.append(words[1:end + 1] if format == "drat" else ["a", *words[:end + 1], "l", *words[-2:end:-1], "0"])
+    first = len(tree.clauses) - len(lines)
+    given = [["o", id, *tree.clauses[id], 0] for id in range(1, first + 1)] if format == "frat" else []
+    return "".join(" ".join(map(str, words)) + "\n" for words in given + lines)
 
 
 def fail(does):
@@ -78,9 +88,9 @@ def fail(does):
 
 
 def main(words):
-    is_drat = os.environ.get("STUB_FORMAT") == "drat"
+    format = os.environ.get("STUB_FORMAT", "lrat")
     if "--help" in words:
-        print("  --binary" if is_drat else "  --lrat=bool  write LRAT")
+        print({"drat": "  --binary", "frat": "inputfile [frat-trim-file]", "lrat": "  --lrat=bool  write LRAT"}[format])
         return 0
     with open(os.environ["STUB_CALLS"], "a+") as calls:
         calls.write(" ".join(words) + "\n")
@@ -98,7 +108,7 @@ def main(words):
         return 10
     if len(files) > 1:
         with open(files[1], "w") as reasons:
-            reasons.write("".join(_without_hints(line) if is_drat else line + "\n" for line in tree.lines))
+            reasons.write(_refutation(tree, format))
     print("s UNSATISFIABLE")
     return 20
 

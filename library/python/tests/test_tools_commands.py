@@ -59,7 +59,8 @@ class Commands(unittest.TestCase):
             os.mkdir(os.path.join(self.folder, name))
         self.calls = os.path.join(self.folder, "calls")
         self.make_stub("cadical")
-        self.make_clasp("exit 65")
+        self.make_script("clasp", "exit 65")
+        self.make_script("cryptominisat5", "exit 65")
         self.environment = dict(os.environ, TMPDIR=self.path("tmp"), STUB_CALLS=self.calls, PATH=self.path("bin") + os.pathsep + os.environ["PATH"],
                                 PYTHONPATH=os.path.join(TOP, "library", "python"), PYTHONDONTWRITEBYTECODE="1")
         self.environment.pop("SOLVER", None)
@@ -75,13 +76,13 @@ class Commands(unittest.TestCase):
             file.write(content if isinstance(content, bytes) else content.encode())
         return self.path(name)
 
-    def make_stub(self, name):
-        script = self.put(os.path.join("bin", name), '#!/bin/sh\nexec "%s" -I -S -B "%s" "$@"\n' % (sys.executable, os.path.join(HERE, "stub_solver.py")))
-        os.chmod(script, os.stat(script).st_mode | stat.S_IXUSR)
+    def make_stub(self, name, *lines):
+        """The solver of the tests, behind these lines of a shell."""
+        self.make_script(name, *lines, 'exec "%s" -I -S -B "%s" "$@"' % (sys.executable, os.path.join(HERE, "stub_solver.py")))
 
-    def make_clasp(self, *lines):
-        """An optimizer that does what these lines of a shell say."""
-        script = self.put("bin/clasp", "\n".join(("#!/bin/sh",) + lines) + "\n")
+    def make_script(self, name, *lines):
+        """A program that does what these lines of a shell say."""
+        script = self.put(os.path.join("bin", name), "\n".join(("#!/bin/sh",) + lines) + "\n")
         os.chmod(script, os.stat(script).st_mode | stat.S_IXUSR)
 
     def start(self, *words, does=None, since=1):
@@ -260,7 +261,7 @@ class Minimizing(Commands):
         for lines in (("echo v %s; echo o 5; echo v %s; echo o 2; echo s OPTIMUM FOUND" % (other, best),), ("echo v %s; echo o 5; echo s OPTIMUM FOUND" % other,),
                       ("echo v 1 2 3 4 0; echo o 0; exec sleep 900",), ("echo s OPTIMUM FOUND",), ("echo v 1", "exit 3"), ("exec sleep 900",),
                       ("exec >&-; exec sleep 900",)):
-            self.make_clasp(*lines)
+            self.make_script("clasp", *lines)
             status, said, _ = self.run_tool("minimize", "-q", opb, "--jobs=2")
             self.assertEqual((status, self.values_of(said)[-1], said[-2]), (0, 3, "s OPTIMUM FOUND"), lines)
 
@@ -286,6 +287,32 @@ class Minimizing(Commands):
         self.assertEqual((status, self.values_of(said)[-1], said[-2], told), (0, 3, "s OPTIMUM FOUND", ""))
         self.assertEqual(self.run_tool("minimize", "-q", self.put("none.opb", NONE)), (20, ["s UNSATISFIABLE"], ""))
         self.assertEqual(self.run_tool("solve", self.path("none.opb")), (20, ["s UNSATISFIABLE"], ""))
+
+    def test_rival(self):
+        """Another solver whose reasons have hints, beside one that never ends, ends first or fails; one that fails itself, and one that lies."""
+        self.environment["STUB_FORMAT"] = "drat"
+        opb = self.put("stars.opb", STARS)
+        # Once the optimizer has found the best solution, just that is asked.
+        self.make_script("clasp", "echo v 1 2 -3 -4 0; echo o 5; echo s OPTIMUM FOUND")
+        frat = "export STUB_FORMAT=frat"
+        helps = "case $1 in --help) echo '[frat-trim-file]'; exit ;; esac"
+        slow = "case \" $* \" in *' -c '* | *cnf.1*) ;; *' --help '*) ;; *) exec sleep 900 ;; esac"
+        for rival, prover in (((frat,), (slow,)), ((frat, helps, "sleep 0.5"), ()), ((helps, "exit 3"), ()), ((helps, "echo s UNSATISFIABLE"), ()),
+                              ((helps, "exec sleep 900"), ()), ((frat,), ())):
+            self.make_stub("cadical", *prover)
+            self.make_stub("cryptominisat5", *rival)
+            status, said, told = self.run_tool("minimize", "-q", opb, "--jobs=2")
+            self.assertEqual((status, self.values_of(said)[-1], said[-2], told), (0, 3, "s OPTIMUM FOUND", ""), rival)
+
+    def test_rival_as_prover(self):
+        os.unlink(self.path("bin/cadical"))
+        self.make_stub("other")
+        self.make_stub("cryptominisat5", "export STUB_FORMAT=frat")
+        for name in ("sh", "env"):
+            os.symlink(shutil.which(name), self.path("bin/" + name))
+        self.environment["PATH"] = self.path("bin")
+        status, said, told = self.run_tool("minimize", "-q", self.put("stars.opb", STARS), "--solver", "other -q")
+        self.assertEqual((status, self.values_of(said)[-1], said[-2], told), (0, 3, "s OPTIMUM FOUND", ""))
 
     def test_jobs(self):
         for jobs in ("1", "4"):

@@ -1,4 +1,5 @@
-"""`pbcnf-hints`: gives a refutation in the DRAT format, as text, the hints that `refute` asks for, which makes it one in LRAT.
+"""`pbcnf-hints`: gives a refutation in the DRAT format, as text, the hints that `refute` asks for, which makes it one in LRAT. One in the
+FRAT format, which has hints, is left to `frat`.
 
 Both texts are read forwards, up to where unit propagation meets a false clause. From there it goes backwards, and looks for reasons
 for those clauses alone on which that rests, as Wetzler, Heule and Hunt's DRAT-trim does. Each has to follow by unit propagation, as
@@ -22,7 +23,8 @@ from pbcnf.tools.propagation import Clauses
 from pbcnf.tools.statuses import Status, Stop
 
 _NAME = "pbcnf-hints"
-_ABOUT = "Prints a refutation of a CNF in the DRAT format, as `cadical --no-binary` writes it, in the LRAT format, which `pbcnf refute` takes."
+_ABOUT = """Prints a refutation of a CNF in the LRAT format, which `pbcnf refute` takes. It is given in DRAT, as `cadical --no-binary` writes it, or
+in FRAT with hints, as CryptoMiniSat 5.11 does."""
 _STATUSES = """exit status:
   0   the refutation was printed
   1   a clause does not follow, nothing is refuted, or a text is not one of these
@@ -48,9 +50,9 @@ class _Event(NamedTuple):
 def main(words: Optional[List[str]] = None) -> int:
     """Runs the command, and gives its exit status."""
     parser = argparse.ArgumentParser(
-        prog=_NAME, usage="%(prog)s CNF DRAT >LRAT", description=_ABOUT, epilog=_STATUSES, allow_abbrev=False, formatter_class=argparse.RawDescriptionHelpFormatter)
+        prog=_NAME, usage="%(prog)s CNF REFUTATION >LRAT", description=_ABOUT, epilog=_STATUSES, allow_abbrev=False, formatter_class=argparse.RawDescriptionHelpFormatter)
     parser.add_argument("cnf", metavar="CNF", help="the clauses, as `pbcnf encode` writes them")
-    parser.add_argument("drat", metavar="DRAT", help="the refutation, as text")
+    parser.add_argument("refutation", metavar="REFUTATION", help="the refutation, as text")
     parser.add_argument("--version", action="version", version="pbcnf " + pbcnf.__version__)
     given = parser.parse_args(words)
     return status_of(_NAME, lambda: _run(given))
@@ -58,7 +60,7 @@ def main(words: Optional[List[str]] = None) -> int:
 
 def _run(given: argparse.Namespace) -> int:
     test_output()
-    lines = lrat_lines(given.cnf, given.drat)
+    lines = lrat_lines(given.cnf, given.refutation)
     for block in iter(lambda: "".join(itertools.islice(lines, _OFTEN)), ""):
         say(block)
     return Status.DONE

@@ -32,7 +32,7 @@ class Progress:
         """That there is nothing better is about to be refuted, which may take long."""
         self._doing = "; having it refuted that any is better"
         if is_long:
-            self._doing += ", which takes minutes; with CaDiCaL from 1.7 on, or drat-trim on the path, it is quicker"
+            self._doing += ", which takes minutes; with CaDiCaL from 1.7 on, or drat-trim or CryptoMiniSat on the path, it is quicker"
             self._write(self._name + self._doing.replace(";", ":", 1) + "\n")
 
     def knows(self, found: Found, seconds: float) -> None:
