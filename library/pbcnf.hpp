@@ -48,7 +48,17 @@ struct Number {
 
   Number(std::int64_t value = 0) : low(static_cast<std::uint64_t>(value)), high(value < 0 ? UINT64_MAX : 0) {}
   Number(std::uint64_t low_word, std::uint64_t high_word) : low(low_word), high(high_word) {}
+
+  /* The sign is in the high word. */
+  friend bool operator<(const Number &a, const Number &b) {
+    return a.high == b.high ? a.low < b.low : static_cast<std::int64_t>(a.high) < static_cast<std::int64_t>(b.high);
+  }
+  friend bool operator==(const Number &a, const Number &b) { return a.low == b.low && a.high == b.high; }
+  friend bool operator!=(const Number &a, const Number &b) { return !(a == b); }
 };
+
+/* The value of a row of `bounds`. */
+inline Number value_of(const pbcnf_row &row) { return Number(row.low, row.high); }
 
 enum class Relation : std::uint32_t { at_least = PBCNF_AT_LEAST, at_most = PBCNF_AT_MOST, equal = PBCNF_EQUAL };
 enum class Amo : std::uint32_t { automatic = 0, pairwise = 1, ladder = 2, product = 3 };

@@ -158,6 +158,13 @@ solves() {
     tells 'pbcnf: OPB 1:10: expected an integer'
 }
 
+# finds_the_best CMD..: the example finds the optimum of OPB files.
+finds_the_best() {
+    expect 0 "$@" "$examples/guards.opb"
+    grep '^[os] ' "$said" | tail -n 2 >ends
+    holds ends 'o 20' 's OPTIMUM FOUND'
+}
+
 finds_the_cheapest() {
     expect 0 "$@"
     tail -n 2 "$said" >ends
@@ -177,11 +184,13 @@ try_examples() {
         skip 'there is no ccadical.h, of libcadical-dev'
     fi
     if has c++ && echo '#include <cadical.hpp>' >has.cc && c++ -fsyntax-only has.cc 2>"$state/cc"; then
-        for name in solve cheapest; do
+        for name in solve cheapest optimum; do
             expect 0 c++ -std=c++17 -Wall -Wextra -Werror "$library/examples/$name.cc" "${flags[@]}" -o $name.cc.out
         done
         solves ./solve.cc.out
         finds_the_cheapest ./cheapest.cc.out
+        solves ./optimum.cc.out
+        finds_the_best ./optimum.cc.out
     else
         skip 'there is no cadical.hpp, of libcadical-dev'
     fi
@@ -190,6 +199,14 @@ try_examples() {
         finds_the_cheapest $python "$library/examples/cheapest.py"
     else
         skip 'there is no pycryptosat, of python3-cryptominisat'
+    fi
+    if [ -n "$python" ] && has cadical; then
+        expect 0 $python "$library/examples/shifts.py" cadical
+        tail -n 1 "$said" >ends
+        holds ends 'broken wishes weigh 7'
+        expect 69 $python "$library/examples/shifts.py" no-solver
+    else
+        skip 'there is no cadical, or no python3'
     fi
     if has cargo && [ -x solve.c.out ]; then
         expect 0 env PBCNF_LIB_DIR="$linked" CARGO_TARGET_DIR="$PWD/target" \

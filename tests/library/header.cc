@@ -138,12 +138,21 @@ void try_refusals() {
 
 }  // namespace
 
+void try_numbers() {
+  const pbcnf::Number rising[] = {{0, 1ull << 63}, {0, UINT64_MAX}, -5, -1, 0, 1, INT64_MAX, {1ull << 63, 0}, {0, 1}, {UINT64_MAX, INT64_MAX}};
+  bool is_right = true;
+  for (const pbcnf::Number &a : rising)
+    for (const pbcnf::Number &b : rising) is_right = is_right && (a < b) == (&a < &b) && (a == b) == (&a == &b) && (a != b) == (&a != &b);
+  judge(is_right, "numbers in order");
+}
+
 int main() {
   try_clauses();
   try_models();
   try_judgements();
   try_constraints();
   try_many();
+  try_numbers();
   try_refusals();
   std::printf("%d passed, %d failed\n", passes, failures);
   return failures > 0;
