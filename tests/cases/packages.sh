@@ -36,7 +36,7 @@ try_rust() {
         return
     fi
     cp -R "$library/rust" crate
-    expect 0 env PBCNF_LIB_DIR="$linked" CARGO_TARGET_DIR="$PWD/target" cargo test -q --offline --manifest-path crate/Cargo.toml
+    expect 0 env PBCNF_LIB_DIR="$linked" CARGO_TARGET_DIR="$PWD/target" cargo test -q --offline --workspace --manifest-path crate/Cargo.toml
 }
 
 # What the repository's own ./install puts is found by Python and by pkg-config, and linked both ways.

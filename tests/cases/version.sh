@@ -4,7 +4,7 @@
 copy="$PWD/a copy"
 version=$copy/docs/tools/version
 written='README.md docs/pbcnf.1 docs/pbcnf-cheapest.1 docs/pbcnf-hints.1 docs/pbcnf-minimize.1 docs/pbcnf-solve.1'
-written+=' library/pbcnf.h crates/pbcnf_c/src/lib.rt library/python/pbcnf/__init__.py library/rust/Cargo.toml'
+written+=' library/pbcnf.h crates/pbcnf_c/src/lib.rt library/python/pbcnf/__init__.py library/rust/Cargo.toml library/rust/sys/Cargo.toml'
 for file in VERSION CHANGELOG.md docs/tools/version $written; do
     mkdir -p "$copy/$(dirname "$file")"
     cp "$top/$file" "$copy/$file"

@@ -1,7 +1,7 @@
 //! How a call of the library is made: what it is passed, and the room that it fills.
-use crate::c;
 use crate::error::{Error, Mistake};
 use crate::options::Options;
+use pbcnf_sys as c;
 
 const NO_ROOM: u8 = 5;
 

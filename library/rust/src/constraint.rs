@@ -1,11 +1,11 @@
 //! One constraint at a time: nothing is kept from call to call but the first variable that is still free.
-use crate::c;
 use crate::calling::{fill, mistaken_budget, mistaken_first, text, words};
 use crate::constraints::Constraints;
 use crate::error::{Error, Mistake};
 use crate::lit::Lit;
 use crate::options::Options;
 use crate::results::Encoding;
+use pbcnf_sys as c;
 
 /// What stands between a sum and its right side.
 #[derive(Clone, Copy, PartialEq, Eq, Hash, PartialOrd, Ord, Debug)]

@@ -1,11 +1,11 @@
 //! Many constraints in one call.
-use crate::c;
 use crate::calling::{fill, mistaken_budget, mistaken_first, text, words};
 use crate::constraint::{Columns, Constraint};
 use crate::error::{Error, Mistake};
 use crate::lit::Lit;
 use crate::options::Options;
 use crate::results::Encoding;
+use pbcnf_sys as c;
 
 /// A call on many constraints that puts a text or integers.
 type Call<T> = unsafe extern "C" fn(

@@ -1,8 +1,8 @@
 //! Why a call did not do what was asked.
-use crate::c;
 use crate::lit::Lit;
 use crate::numbers::{Denied, Expected, File, Limit, Unproved};
 use crate::options::Options;
+use pbcnf_sys as c;
 use std::fmt;
 
 /// A place in a text: lines and columns count from 1, columns in bytes.

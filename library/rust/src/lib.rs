@@ -13,7 +13,6 @@
 //! are functions of what they are passed, and may be made by several threads at once.
 #![warn(missing_docs)]
 
-mod c;
 mod calling;
 mod constraint;
 mod constraints;
@@ -30,6 +29,8 @@ pub use lit::{lit, Lit, NoLiteral};
 pub use numbers::{Denied, Expected, File, Limit, Unproved};
 pub use options::{Amo, Card, Equal, General, Options};
 pub use results::{Clauses, Encoding, Solution};
+
+use pbcnf_sys as c;
 
 use calling::{bound_of, filled, judge_library, mistaken_budget, text};
 

@@ -1,5 +1,5 @@
 //! What is chosen of an encoding.
-use crate::c;
+use pbcnf_sys as c;
 
 /// The clauses of at most one literal.
 #[derive(Clone, Copy, PartialEq, Eq, Hash, PartialOrd, Ord, Debug, Default)]

@@ -1,6 +1,6 @@
 //! What the calls give back.
-use crate::c;
 use crate::lit::Lit;
+use pbcnf_sys as c;
 use std::iter::FusedIterator;
 
 /// The clauses of a problem, or of one constraint. `for clause in &encoding` goes through them. The integers are a vector of its

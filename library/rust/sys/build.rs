@@ -23,7 +23,7 @@ fn installed() -> Option<PathBuf> {
 
 /// The folders of the repository that may have it for the system that the crate is built for.
 fn in_repository() -> Vec<PathBuf> {
-    let library = Path::new(env!("CARGO_MANIFEST_DIR")).join("..");
+    let library = Path::new(env!("CARGO_MANIFEST_DIR")).join("../..");
     let target = |part| env::var(format!("CARGO_CFG_TARGET_{part}")).unwrap_or_default();
     let system = format!("{}-{}", target("ARCH"), target("OS"));
     vec![library.join("../release").join(system), library.join("out")]

@@ -1,7 +1,9 @@
-//! The calls of pbcnf.h and their structs, as they stand there.
+//! The calls of pbcnf.h and their structs, as they stand there: it says what each means, and what the caller owes. The crate `pbcnf`
+//! makes these calls safely.
+#![allow(missing_docs)]
 
 #[repr(C)]
-#[derive(Clone, Copy)]
+#[derive(Clone, Copy, PartialEq, Eq, Hash, Default, Debug)]
 pub struct Options {
     pub amo: u32,
     pub card: u32,
@@ -12,7 +14,7 @@ pub struct Options {
 }
 
 #[repr(C)]
-#[derive(Clone, Copy, Default)]
+#[derive(Clone, Copy, PartialEq, Eq, Hash, Default, Debug)]
 pub struct Bound {
     pub set: u64,
     pub low: u64,
@@ -20,7 +22,7 @@ pub struct Bound {
 }
 
 #[repr(C)]
-#[derive(Clone, Copy, Default)]
+#[derive(Clone, Copy, PartialEq, Eq, Hash, Default, Debug)]
 pub struct Size {
     pub vars: u32,
     pub original: u32,
@@ -29,7 +31,7 @@ pub struct Size {
 }
 
 #[repr(C)]
-#[derive(Clone, Copy, Default)]
+#[derive(Clone, Copy, PartialEq, Eq, Hash, Default, Debug)]
 pub struct Row {
     pub low: u64,
     pub high: u64,
@@ -38,7 +40,7 @@ pub struct Row {
 }
 
 #[repr(C)]
-#[derive(Clone, Copy, Default)]
+#[derive(Clone, Copy, PartialEq, Eq, Hash, Default, Debug)]
 pub struct Refusal {
     pub line: u64,
     pub column: u64,
@@ -52,7 +54,7 @@ pub struct Refusal {
 }
 
 #[repr(C)]
-#[derive(Clone, Copy)]
+#[derive(Clone, Copy, PartialEq, Eq, Hash, Default, Debug)]
 pub struct Side {
     pub relation: u32,
     pub first: u32,
@@ -61,7 +63,7 @@ pub struct Side {
 }
 
 #[repr(C)]
-#[derive(Clone, Copy, Debug)]
+#[derive(Clone, Copy, PartialEq, Eq, Hash, Default, Debug)]
 pub struct Sum {
     pub relation: u32,
     pub unused: u32,
@@ -104,4 +106,13 @@ extern "C" {
         sums: *const Sum, constraints: usize, first: u32, options: *const Options,
         proof: *mut u8, room: usize, size: *mut Size, refusal: *mut Refusal) -> u8;
     pub fn pbcnf_words(refusal: *const Refusal, said: *mut u8, room: usize, length: *mut u64) -> u8;
+}
+
+#[cfg(test)]
+mod tests {
+    #[test]
+    fn the_library_has_this_interface() {
+        // SAFETY: it asks for nothing.
+        assert_eq!(unsafe { super::pbcnf_abi() }, super::ABI);
+    }
 }
