@@ -5,7 +5,9 @@ needs python3
 export PBCNF=$pbcnf PYTHONDONTWRITEBYTECODE=1
 ln -s "$examples" examples
 
-run_tests "$top/library/python/tests/test_tools_parts.py"
+for name in tools_parts reasons learning; do
+    run_tests "$top/library/python/tests/test_$name.py"
+done
 
 # has_lines LINE..: the last command has said these lines, among others.
 has_lines() {

@@ -171,7 +171,7 @@ class Races(Folder):
             first, *others = [Played(watch, *words).attempt(workspace, cnf) for words in (first, *others)]
             watch.wait([first.run.running])
             other = None if rival is None else Played(watch, *rival)
-            with open(reasons.make_lrat([first, *others], other, watch, workspace)) as lrat:
+            with open(reasons.make_lrat([first, *others], other, watch, workspace)[1]) as lrat:
                 return refutes(SQUARE, lrat)
 
     def test_first_text_is_taken(self):

@@ -27,6 +27,9 @@ TOP = os.path.dirname(os.path.dirname(os.path.dirname(HERE)))
 GUARDS = os.path.join(TOP, "examples", "guards.opb")
 PIGEONS = os.path.join(TOP, "examples", "pigeons.opb")
 STARS = "min: +3 a +2 ~b +4 c -1 d ;\n+1 a +1 b +1 c >= 2 ;\n+2 a +1 b +1 d >= 2 ;\n+1 ~a +1 ~d >= 1 ;\n"
+# An optimizer that finds the best solution of it. Then just that is asked, which this solver never answers.
+BEST = ("echo v 1 2 -3 -4 0; echo o 5; echo s OPTIMUM FOUND",)
+SLOW = "case \" $* \" in *' -c '* | *'cnf.1 '*) ;; *' --help '*) ;; *) exec sleep 900 ;; esac"
 # Two of three are taken, and at most one.
 NONE = "min: +1 x1 ;\n+1 x1 +1 x2 +1 x3 >= 2 ;\n+1 x1 +1 x2 +1 x3 <= 1 ;\n"
 
@@ -291,18 +294,34 @@ class Minimizing(Commands):
     def test_rival(self):
         """Another solver whose reasons have hints, beside one that never ends, ends first or fails; one that fails itself, and one that lies."""
         self.environment["STUB_FORMAT"] = "drat"
-        opb = self.put("stars.opb", STARS)
-        # Once the optimizer has found the best solution, just that is asked.
-        self.make_script("clasp", "echo v 1 2 -3 -4 0; echo o 5; echo s OPTIMUM FOUND")
+        # The search over constraints does not take so long a text.
+        opb = self.put("stars.opb", STARS + "*" * 2000000)
+        self.make_script("clasp", *BEST)
         frat = "export STUB_FORMAT=frat"
         helps = "case $1 in --help) echo '[frat-trim-file]'; exit ;; esac"
-        slow = "case \" $* \" in *' -c '* | *cnf.1*) ;; *' --help '*) ;; *) exec sleep 900 ;; esac"
-        for rival, prover in (((frat,), (slow,)), ((frat, helps, "sleep 0.5"), ()), ((helps, "exit 3"), ()), ((helps, "echo s UNSATISFIABLE"), ()),
+        for rival, prover in (((frat,), (SLOW,)), ((frat, helps, "sleep 0.5"), ()), ((helps, "exit 3"), ()), ((helps, "echo s UNSATISFIABLE"), ()),
                               ((helps, "exec sleep 900"), ()), ((frat,), ())):
             self.make_stub("cadical", *prover)
             self.make_stub("cryptominisat5", *rival)
             status, said, told = self.run_tool("minimize", "-q", opb, "--jobs=2")
             self.assertEqual((status, self.values_of(said)[-1], said[-2], told), (0, 3, "s OPTIMUM FOUND", ""), rival)
+
+    def test_search_over_constraints(self):
+        """It has the end refuted where the solver never ends, as it is kept, and looks for better solutions where clasp does not take the weights."""
+        self.make_stub("cadical", SLOW)
+        self.make_script("clasp", *BEST)
+        os.mkdir(self.path("kept"))
+        opb = self.put("stars.opb", STARS)
+        status, said, told = self.run_tool("minimize", "-q", opb, "--jobs=2", "--keep", self.path("kept"))
+        self.assertEqual((status, self.values_of(said)[-1], said[-2], told), (0, 3, "s OPTIMUM FOUND", ""))
+        with open(self.path("kept/refuted.cnf")) as cnf:
+            self.assertEqual(cnf.read(), "p cnf 4 1\n0\n")
+        files = [self.path("kept/" + name) for name in ("best.model", "refuted.cnf", "refuted.proof", "refuted.lrat")]
+        run = subprocess.run([os.environ["PBCNF"], "optimum", opb, *files], stdout=subprocess.PIPE, universal_newlines=True, check=True)
+        self.assertEqual(run.stdout.splitlines(), ["o 3", *said[-2:]])
+        heavy = self.put("heavy.opb", STARS.replace("+4 c", "+4000000000000 c"))
+        status, said, told = self.run_tool("minimize", "-q", heavy, "--jobs=2")
+        self.assertEqual((status, self.values_of(said)[-1], said[-2], told), (0, 3, "s OPTIMUM FOUND", ""))
 
     def test_rival_as_prover(self):
         os.unlink(self.path("bin/cadical"))

@@ -319,14 +319,17 @@ class Drawn:
     def possible(self):
         return values.Values(self.least, self.weights)
 
-    def pose(self, bound, effort=None, has_rival=False):
+    def pose_to_all(self, bound):
+        return self.pose(bound)
+
+    def pose(self, bound, effort=None):
         self.calls += 1
         if bound in [other[0] for other in self.open if other != "descent"]:
             raise AssertionError("asked twice at once")
         self.open.append((bound, effort))
         return self.open[-1]
 
-    def descend(self):
+    def descend(self, bound):
         """An optimizer that finds all but the best ones too, fails at some time, or says too early that nothing is better."""
         if self.optimizer is None:
             return None

@@ -107,7 +107,7 @@ class _Core:
         if verdict is Verdict.UNKNOWN:
             raise Stop(Status.NO_ANSWER, run.ended())
         if verdict is Verdict.NO_MODEL and self._solver.reasons is not None:
-            self._lrat = make_lrat([Attempt(self._solver, files, run)], self._rival, self._watch, self._workspace)
+            _, self._lrat = make_lrat([Attempt(self._solver, files, run)], self._rival, self._watch, self._workspace)
         return verdict
 
     def _print_solution(self, proved: Program) -> int:

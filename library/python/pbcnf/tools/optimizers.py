@@ -1,4 +1,5 @@
-"""A solver that looks for better and better solutions by itself, over the weighted CNF: clasp, where it is on the path.
+"""A solver that looks for better and better solutions by itself: clasp over the weighted CNF, where it is on the path and can take the
+weights, else the search over the constraints themselves.
 
 It keeps what it has learned from one solution to the next, which a new run for each bound does not. What it prints is tested as any
 other solution. That it finds nothing better is no proof, but tells what to have refuted next.
@@ -7,8 +8,10 @@ other solution. That it finds nothing better is no proof, but tells what to have
 from __future__ import annotations
 
 import shutil
+import subprocess
 from typing import List, Optional, Sequence
 
+from pbcnf.tools import learning
 from pbcnf.tools.program import Program
 from pbcnf.tools.watch import Running, Watch
 from pbcnf.tools.workspace import Workspace
@@ -48,16 +51,17 @@ class Descent:
         return None if model is None else b"s SATISFIABLE\n" + model
 
 
-def start(program: Program, options: Sequence[str], watch: Watch, workspace: Workspace) -> Optional[Descent]:
-    """Starts the optimizer, if there is one that can take the problem."""
+def start(program: Program, bound: int, options: Sequence[str], watch: Watch, workspace: Workspace) -> Optional[Descent]:
+    """Starts the optimizer that can take the problem, if there is one."""
     clasp = shutil.which(_NAME)
-    if clasp is None:
+    if clasp is not None:
+        wcnf, older = workspace.path("optimizer.wcnf"), workspace.path("optimizer.older")
+        variables = program.weighted(options, wcnf).variables
+        if _write_older(wcnf, older, variables):
+            return Descent(watch.start([clasp, older], stderr=subprocess.DEVNULL, is_heard=True))
+    if not learning.can_take(program.text):
         return None
-    wcnf, older = workspace.path("optimizer.wcnf"), workspace.path("optimizer.older")
-    variables = program.weighted(options, wcnf).variables
-    if not _write_older(wcnf, older, variables):
-        return None
-    return Descent(watch.start([clasp, older], is_heard=True))
+    return Descent(watch.start(learning.command(program.problem, str(bound)), stderr=subprocess.DEVNULL, is_heard=True))
 
 
 def _write_older(wcnf: str, older: str, variables: int) -> bool:

@@ -11,12 +11,12 @@ from __future__ import annotations
 import os
 from typing import List, Optional, Protocol, Sequence, Tuple, Union
 
-from pbcnf.tools import optimizers
+from pbcnf.tools import learning, optimizers
 from pbcnf.tools.encodings import Encodings
 from pbcnf.tools.optimizers import Descent
 from pbcnf.tools.program import Program, Refutation, Solution, Summary, bound_option
 from pbcnf.tools.reasons import make_lrat, takes_long
-from pbcnf.tools.solvers import Attempt, Effort, Files, Run, Solver, Team, Verdict
+from pbcnf.tools.solvers import Attempt, Effort, Files, Learner, Reasons, Run, Solver, Team, Verdict
 from pbcnf.tools.statuses import Status, Stop
 from pbcnf.tools.watch import Running, Watch
 from pbcnf.tools.workspace import Workspace, put_whole
@@ -45,12 +45,14 @@ class Told(Protocol):
 
 
 class Question:
-    """Whether there is a solution of at most a value, which one solver or two are about to answer."""
+    """Whether there is a solution of at most a value, which a solver is about to answer, or some beside one another, the first of whom
+    has to."""
 
     def __init__(self, bound: Optional[int], is_limited: bool, options: List[str], attempts: List[Attempt]) -> None:
         self.bound = bound
         self.is_limited = is_limited
         self.options = options
+        self.first = attempts[0]
         self.cnf = attempts[0].files.cnf
         self.attempts = attempts
 
@@ -80,25 +82,36 @@ class Oracle:
         """A solution of at most this value, or that there is none, or that the effort was not enough to know."""
         return self.wait([self.pose(bound, effort)])[1]
 
-    def pose(self, bound: Optional[int], effort: Optional[Effort] = None, has_rival: bool = False) -> Question:
-        """Has the solver begin to look for a solution of at most this value, and the rival beside it, if there is one."""
-        return self._pose(self._team.solver, self._team.rival if has_rival else None, bound, effort)
+    def pose(self, bound: Optional[int], effort: Optional[Effort] = None) -> Question:
+        """Has the solver begin to look for a solution of at most this value."""
+        return self._pose(self._team.solver, bound, effort)
 
-    def _pose(self, solver: Solver, rival: Optional[Solver], bound: Optional[int], effort: Optional[Effort]) -> Question:
+    def pose_to_all(self, bound: int) -> Question:
+        """The same, and others beside it, whose reasons are soon checked where the solver's are not."""
+        question = self._pose(self._team.solver, bound, None)
+        if self._team.prover is not None and self._team.rival is not None:
+            files = self._files(question.cnf, "rival")
+            question.attempts.append(Attempt(self._team.rival, files, self._team.rival.start(files)))
+        if self._team.prover is not None and learning.can_take(self._program.text):
+            files = self._files(question.cnf + ".learner", "learner")
+            learner = Learner(self._watch)
+            question.attempts.append(Attempt(learner, files, learner.start(self._program.problem, bound, files)))
+        return question
+
+    def _pose(self, solver: Solver, bound: Optional[int], effort: Optional[Effort]) -> Question:
         self._count += 1
-        cnf = self._workspace.path("cnf.%d" % self._count)
-        size, options = self._encodings.encode(_bound(bound), cnf)
+        files = self._files(self._workspace.path("cnf.%d" % self._count), "solver")
+        size, options = self._encodings.encode(_bound(bound), files.cnf)
         self._told.asks(bound, size)
-        attempts: List[Attempt] = []
-        for asked in (solver, rival):
-            if asked is not None:
-                files = Files(cnf, *(self._workspace.path("%s.%d.%d" % (name, self._count, len(attempts))) for name in ("model", "reasons")))
-                attempts.append(Attempt(asked, files, asked.start(files, effort)))
-        return Question(bound, effort is not None, options, attempts)
+        return Question(bound, effort is not None, options, [Attempt(solver, files, solver.start(files, effort))])
 
-    def descend(self) -> Optional[Descent]:
-        """Has an optimizer look for better and better solutions, if there is one."""
-        return optimizers.start(self._program, self._encodings.options, self._watch, self._workspace)
+    def _files(self, cnf: str, name: str) -> Files:
+        """Those of one who is asked."""
+        return Files(cnf, *(self._workspace.path("%s.%d.%s" % (kind, self._count, name)) for kind in ("model", "reasons")))
+
+    def descend(self, bound: int) -> Optional[Descent]:
+        """Has an optimizer look for better and better solutions of at most this value, if there is one."""
+        return optimizers.start(self._program, bound, self._encodings.options, self._watch, self._workspace)
 
     def wait(self, asked: Sequence[Asked]) -> Tuple[Asked, Answer]:
         """Waits for the first answer to what is asked: to a question, which is put no more then, or the next one of an optimizer."""
@@ -145,19 +158,22 @@ class Oracle:
         if prover is None:
             raise Stop(Status.UNPROVED, "%s finds nothing better, and gives no reasons that would refute it" % solver.name)
         if self._refused is None or self._refused.bound != bound or solver is not prover:
-            self.wait([self._pose(prover, None, bound, None)])
+            self.wait([self._pose(prover, bound, None)])
         refused = self._refused
         if refused is None or refused.bound != bound:
             raise Stop(Status.NO_ANSWER, "%s says now this, now that" % solver.name)
-        proof = self._workspace.path("proof")
         self._told.refutes(takes_long(refused.attempts, rival))
+        attempt, lrat = make_lrat(refused.attempts, rival, self._watch, self._workspace)
+        if attempt.solver.reasons is Reasons.DERIVATION:
+            return Refutation(attempt.files.cnf, attempt.files.reasons, lrat)
+        proof = self._workspace.path("proof")
         self._program.encode(refused.options, refused.cnf, proof)
-        return Refutation(refused.cnf, proof, make_lrat(refused.attempts, rival, self._watch, self._workspace))
+        return Refutation(refused.cnf, proof, lrat)
 
     def _end(self, question: Question, heard: Running) -> Optional[Answer]:
-        """The answer that one of the solvers has given, or nothing where it is the rival that has failed."""
+        """The answer that one of the solvers has given, or nothing where it is one beside the first that has failed."""
         attempt = next(attempt for attempt in question.attempts if attempt.run.running is heard)
-        if attempt.solver is self._team.rival and attempt.run.verdict() is Verdict.UNKNOWN:
+        if attempt is not question.first and attempt.run.verdict() is Verdict.UNKNOWN:
             question.attempts.remove(attempt)
             return None
         answer = self._judge(question, attempt)

@@ -85,17 +85,18 @@ class Program:
         self._workspace = workspace
         self.text = problem
         self._name = name
-        self._problem = workspace.write("opb", problem)
+        self.problem = workspace.write("opb", problem)
+        """The path of the text."""
 
     def encode(self, options: Sequence[str], cnf: str, proof: Optional[str] = None) -> Summary:
         """Writes the CNF, and a derivation where a path for one is given."""
-        files = [self._problem, cnf] + ([proof] if proof else [])
+        files = [self.problem, cnf] + ([proof] if proof else [])
         return _summary(self._ask("encode", files, options))
 
     def encode_within(self, size: int, options: Sequence[str], cnf: str) -> Optional[Summary]:
         """Writes the CNF, if it is not longer than so many bytes; else what is there of it is cut off."""
         # The shell counts in blocks of 512 bytes. A core of the run that passes the limit would be of no use.
-        words = ["/bin/sh", "-c", 'ulimit -c 0; ulimit -f "$0" && exec "$@"', str(size // 512 + 1), self._path, "encode", self._problem, cnf, *options]
+        words = ["/bin/sh", "-c", 'ulimit -c 0; ulimit -f "$0" && exec "$@"', str(size // 512 + 1), self._path, "encode", self.problem, cnf, *options]
         said = self._workspace.path("said")
         with open(said, "wb") as answer:
             if self._watch.run(words, stdout=answer, stderr=subprocess.DEVNULL) == 0:
@@ -104,14 +105,14 @@ class Program:
 
     def decode(self, model: str, bound: Sequence[str] = ()) -> Solution:
         """The solution that a solver's text gives."""
-        lines = self._ask("decode", [self._problem, model], bound).splitlines()
+        lines = self._ask("decode", [self.problem, model], bound).splitlines()
         value = next((int(line[2:]) for line in lines if line.startswith("o ")), None)
         with open(model, "rb") as file:
             return Solution(value, next(line for line in lines if line.startswith("v")), file.read())
 
     def weighted(self, options: Sequence[str], wcnf: str) -> Summary:
         """Writes the weighted CNF."""
-        return _summary(self._ask("wcnf", [self._problem, wcnf], options))
+        return _summary(self._ask("wcnf", [self.problem, wcnf], options))
 
     def values(self, options: Sequence[str]) -> Values:
         """The values that the objective's sum could have, whatever the statements are: its normal form, as `wcnf` writes it, is an
@@ -126,14 +127,14 @@ class Program:
 
     def refute(self, refutation: Refutation, bound: Sequence[str]) -> None:
         """Comes back where the program says `refuted`."""
-        said = self._ask("refute", [self._problem, *refutation], bound)
+        said = self._ask("refute", [self.problem, *refutation], bound)
         if said != "refuted\n":
             raise Stop(Status.NO_ANSWER, "refute has not said `refuted`")
 
     def optimum(self, best: Solution, refutation: Refutation) -> None:
         """Comes back where the program, which tests the solution anew, says that it is an optimum."""
         model = self._workspace.write("best.model", best.model)
-        said = self._ask("optimum", [self._problem, model, *refutation], [])
+        said = self._ask("optimum", [self.problem, model, *refutation], [])
         if said != "o %s\ns OPTIMUM FOUND\n%s\n" % (best.value, best.values):
             raise Stop(Status.NO_ANSWER, "optimum has not said that this solution is one")
 

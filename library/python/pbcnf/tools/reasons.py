@@ -6,7 +6,7 @@ from __future__ import annotations
 import os
 import shutil
 import sys
-from typing import Callable, Dict, List, Optional, Sequence
+from typing import Callable, Dict, List, Optional, Sequence, Tuple
 
 from pbcnf.tools.hints import lrat_lines
 from pbcnf.tools.solvers import Attempt, Files, Reasons, Solver, Verdict
@@ -19,6 +19,7 @@ _LARGE = 50000
 # From so many on it pays to start other programs beside one another, and to say that it takes long.
 _LONG = 500000
 _VERY_LARGE = 2000000
+_READY = (Reasons.LRAT, Reasons.DERIVATION)
 # Runs `pbcnf-hints` of the package that lies there, the more nicely the longer it takes.
 _HINTS = "import os, sys; os.nice(int(sys.argv.pop(1))); sys.path.insert(0, sys.argv.pop(1)); from pbcnf.tools.hints import main; sys.exit(main())"
 
@@ -29,29 +30,33 @@ def takes_long(attempts: Sequence[Attempt], rival: Optional[Solver]) -> bool:
     return alone and _size(attempts[0]) > _VERY_LARGE and not shutil.which("drat-trim")
 
 
-def make_lrat(attempts: Sequence[Attempt], rival: Optional[Solver], watch: Watch, workspace: Workspace) -> str:
-    """The path of an LRAT text for the CNF of these attempts, one of which has found no model; others may still run.
+def make_lrat(attempts: Sequence[Attempt], rival: Optional[Solver], watch: Watch, workspace: Workspace) -> Tuple[Attempt, str]:
+    """One of these attempts, and the path of an LRAT text for its CNF. One has found no model, and others may still run.
 
     The rival is one who may try it too.
     """
-    ended = [attempt for attempt in attempts if attempt.run.running.status is not None]
-    first = ended[0]
+    first = next(attempt for attempt in attempts if attempt.run.running.status is not None)
     size = _size(first)
-    if first.solver.reasons is Reasons.LRAT:
-        return first.files.reasons
+    if first.solver.reasons in _READY:
+        return first, _ready(first, workspace)
     lrat = workspace.path("lrat")
     others = [attempt for attempt in attempts if attempt is not first]
     if _trim(first, lrat, watch, workspace):
-        return lrat
+        return first, lrat
     if size > _LONG and (others or rival):
         return _Race([first, *others], rival, watch, workspace).run()
     try:
         _write(first, lrat, watch.test)
-        return lrat
+        return first, lrat
     except Stop:
         if not others:
             raise
     return _Race(others, None, watch, workspace).run()
+
+
+def _ready(attempt: Attempt, workspace: Workspace) -> str:
+    """The path of the LRAT text that is there: behind a derivation of the empty clause it has no line."""
+    return attempt.files.reasons if attempt.solver.reasons is Reasons.LRAT else workspace.write("lrat", b"")
 
 
 def _size(attempt: Attempt) -> int:
@@ -91,7 +96,7 @@ class _Race:
         self._watch = watch
         self._workspace = workspace
         self._looking: List[Attempt] = []
-        self._making: Dict[Running, str] = {}
+        self._making: Dict[Running, Tuple[Attempt, str]] = {}
         for attempt in attempts:
             self._looking.append(attempt)
             if attempt.run.running.status is not None:
@@ -100,18 +105,21 @@ class _Race:
             files = Files(attempts[0].files.cnf, workspace.path("model.rival"), workspace.path("reasons.rival"))
             self._looking.append(Attempt(rival, files, rival.start(files)))
 
-    def run(self) -> str:
-        """The path of the first text that is made."""
+    def run(self) -> Tuple[Attempt, str]:
+        """The first that is made."""
         while self._making or self._looking:
             heard = self._watch.wait([*self._making, *(attempt.run.running for attempt in self._looking)])
             if heard in self._making:
-                lrat = self._making.pop(heard)
+                made = self._making.pop(heard)
                 if heard.status == 0:
-                    self._end()
-                    return lrat
-            else:
-                self._make(next(attempt for attempt in self._looking if attempt.run.running is heard))
-        with open(self._workspace.path("hints.told"), encoding="utf-8", errors="surrogateescape") as file:
+                    return self._end(*made)
+                continue
+            attempt = next(attempt for attempt in self._looking if attempt.run.running is heard)
+            if attempt.solver.reasons in _READY and attempt.run.verdict() is Verdict.NO_MODEL:
+                return self._end(attempt, _ready(attempt, self._workspace))
+            self._make(attempt)
+        with open(self._workspace.path("hints.told"), "a+", encoding="utf-8", errors="surrogateescape") as file:
+            file.seek(0)
             raise _refused(file.readline().rstrip("\n").partition(": ")[2])
 
     def _make(self, attempt: Attempt) -> None:
@@ -122,9 +130,10 @@ class _Race:
             nice = "10" if attempt.solver.reasons is Reasons.DRAT else "0"
             package = os.path.dirname(os.path.dirname(os.path.dirname(os.path.abspath(__file__))))
             with open(lrat, "wb") as made, open(self._workspace.path("hints.told"), "wb") as told:
-                run = self._watch.start([sys.executable, "-c", _HINTS, nice, package, *attempt.files[::2]], made, told)
-            self._making[run] = lrat
+                run = self._watch.start([sys.executable, "-c", _HINTS, nice, package, attempt.files.cnf, attempt.files.reasons], made, told)
+            self._making[run] = attempt, lrat
 
-    def _end(self) -> None:
+    def _end(self, attempt: Attempt, lrat: str) -> Tuple[Attempt, str]:
         for running in [*self._making, *(attempt.run.running for attempt in self._looking)]:
             self._watch.end(running)
+        return attempt, lrat

@@ -16,11 +16,14 @@ from pbcnf.tools.values import Values
 class Asks(Protocol):
     """What the search asks: `Oracle`, or what stands for it."""
 
-    def pose(self, bound: Optional[int], effort: Optional[Effort] = None, has_rival: bool = False) -> Question:
-        """Begins to look for a solution of at most this value, by one more solver where there is a rival."""
+    def pose(self, bound: Optional[int], effort: Optional[Effort] = None) -> Question:
+        """Begins to look for a solution of at most this value."""
 
-    def descend(self) -> Optional[Descent]:
-        """Has an optimizer look for better and better solutions, if there is one."""
+    def pose_to_all(self, bound: int) -> Question:
+        """The same, by all who can say why there is none."""
+
+    def descend(self, bound: int) -> Optional[Descent]:
+        """Has an optimizer look for better and better solutions of at most this value, if there is one."""
 
     def wait(self, asked: Sequence[Asked]) -> Tuple[Asked, Answer]:
         """The first answer to one of these: a solution, or that there is none, or that the effort was not enough to know."""
@@ -72,7 +75,7 @@ class Search:
         lower = 0
         self.found.lower = values.at(lower)
         if lower < upper and self._jobs > 1:
-            self._descent = self._oracle.descend()
+            self._descent = self._oracle.descend(values.at(upper) - 1)
         self._seekers = seekers(self._jobs - (self._descent is not None))
         posed: List[_Posed] = []
         while lower < upper:
@@ -104,8 +107,9 @@ class Search:
                 place = seeker.choose(lower, upper)
                 if all(one.place != place for one in posed):
                     # Of the bounds that ask the same the greatest: where it is refused, an optimum at the next value rests on just that.
-                    bound, has_rival = values.at(place + 1) - 1, seeker.effort is None and self._jobs > 1
-                    posed.append(_Posed(self._oracle.pose(bound, seeker.effort, has_rival), seeker, place))
+                    bound = values.at(place + 1) - 1
+                    is_last = seeker.effort is None and self._jobs > 1
+                    posed.append(_Posed(self._oracle.pose_to_all(bound) if is_last else self._oracle.pose(bound, seeker.effort), seeker, place))
 
     def _end_descent(self, posed: List[_Posed], answer: Answer) -> None:
         """The optimizer has ended. If it finds nothing better, just that is asked from now on."""

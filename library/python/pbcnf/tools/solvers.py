@@ -8,8 +8,9 @@ import shutil
 import subprocess
 from dataclasses import dataclass
 from enum import Enum
-from typing import Dict, List, Mapping, NamedTuple, Optional, Tuple
+from typing import Dict, List, Mapping, NamedTuple, Optional, Tuple, Union
 
+from pbcnf.tools import learning
 from pbcnf.tools.statuses import Status, Stop
 from pbcnf.tools.watch import Running, Watch
 
@@ -39,11 +40,13 @@ class Verdict(Enum):
 class Reasons(Enum):
     """The format in which a solver writes why a CNF has no model, by the words that ask for it.
 
-    Those for CryptoMiniSat leave out the techniques that write clauses without hints, or with too few.
+    Those for CryptoMiniSat leave out the techniques that write clauses without hints, or with too few. A derivation is not of the CNF,
+    but of the problem itself.
     """
 
     LRAT = ("--lrat", "--no-binary")
     DRAT = ("--no-binary",)
+    DERIVATION = ()
     FRAT = ("--distill=0", "--distillbin=0", "--decbased=0", "--bva=0", "--intree=0", "--recur=0", "--schedsimp=0")
 
 
@@ -98,12 +101,15 @@ class Solver:
         if is_minisat:
             # It writes its values to a second file, in words of its own.
             command.append(files.model + _MINISAT_FILE)
+        told = None
         if files.reasons and self.reasons is Reasons.FRAT:
+            # What it tells as it is ended is of no use.
+            told = subprocess.DEVNULL
             # The shell counts in blocks of 512 bytes.
             command = ["/bin/sh", "-c", 'ulimit -c 0; ulimit -f "$0" && exec "$@"', str(_ROOM // 512), *command]
         with open(files.model, "wb") as said:
             try:
-                running = self._watch.start(command, stdout=subprocess.DEVNULL if is_minisat else said.fileno(), seconds=seconds)
+                running = self._watch.start(command, subprocess.DEVNULL if is_minisat else said.fileno(), told, seconds)
             except OSError as error:
                 raise Stop(Status.MISSING, "%s: %s" % (command[0], error.strerror))
         return Run(self, running, files.model)
@@ -112,7 +118,7 @@ class Solver:
 class Run:
     """A run of a solver. What it came to is known once it has ended."""
 
-    def __init__(self, solver: Solver, running: Running, model: str) -> None:
+    def __init__(self, solver: Union[Solver, Learner], running: Running, model: str) -> None:
         self.running = running
         self._solver = solver
         self._model = model
@@ -139,10 +145,26 @@ class Run:
         return _verdict(self._model)
 
 
+class Learner:
+    """The search over the constraints themselves, as a solver. The reasons that it writes are a derivation, of the empty clause as the CNF."""
+
+    name = "pbcnf.tools.learning"
+    reasons = Reasons.DERIVATION
+
+    def __init__(self, watch: Watch) -> None:
+        self._watch = watch
+
+    def start(self, problem: str, bound: int, files: Files) -> Run:
+        """Starts it over a problem with a bound on its objective."""
+        with open(files.model, "wb") as said:
+            words = learning.command(problem, str(bound), files.cnf, files.reasons)
+            return Run(self, self._watch.start(words, stdout=said.fileno(), stderr=subprocess.DEVNULL), files.model)
+
+
 class Attempt(NamedTuple):
     """A solver's run over a CNF."""
 
-    solver: Solver
+    solver: Union[Solver, Learner]
     files: Files
     run: Run
 
