@@ -33,7 +33,7 @@ for command in solve minimize; do
     mentions 'the following arguments are required: OPB'
 done
 expect 2 "$minimize" "$opb" --at-most=20
-mentions 'unrecognized arguments: --at-most=20'
+mentions '--at-most: pbcnf-minimize chooses the bounds itself'
 expect 2 "$minimize" "$opb" --table
 says
 

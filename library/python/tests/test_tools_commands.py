@@ -395,6 +395,13 @@ class Solving(Commands):
         for words in ((), (GUARDS, kept), (GUARDS, "--general=none"), (GUARDS, "--seconds=0"), (GUARDS, "--at-most=-5"), (GUARDS, "--gen=tree")):
             self.assertEqual(self.run_tool("solve", *words)[:2], (2, []), words)
         self.assertEqual(self.run_tool("minimize", GUARDS, "--at-most=20")[:2], (2, []))
+        for words, why in (((GUARDS, kept), kept + ": nothing but options may follow the OPB file"),
+                           (("--generel", "tree", GUARDS), "there is no option --generel; --general is one"),
+                           ((GUARDS, "--frobnicate"), "there is no option --frobnicate; --help lists them"),
+                           ((GUARDS, "--budget=0"), "argument --budget: 0 is not from 1 to 10,000,000"),
+                           ((GUARDS, "--at-most=%d" % 2**100), "argument --at-most: %d is not below 2^100" % 2**100)):
+            self.assertTrue(self.run_tool("solve", *words)[2].endswith("pbcnf-solve: error: %s\n" % why), words)
+        self.assertTrue(self.run_tool("minimize", GUARDS, "--at-most=20")[2].endswith("--at-most: pbcnf-minimize chooses the bounds itself\n"))
         with open(kept) as file:
             self.assertEqual(file.read(), "this is kept")
         for command in ("solve", "minimize"):

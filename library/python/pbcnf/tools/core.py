@@ -47,7 +47,7 @@ def main(words: Optional[List[str]] = None) -> int:
     """Runs the command, and gives its exit status."""
     parser = options.parser(_NAME, _ABOUT, _STATUSES)
     parser.add_argument("--keep", metavar="FILE", help="write the core there as an OPB text")
-    given = parser.parse_args(words)
+    given = options.parse(parser, words)
     try:
         return status_of(_NAME, lambda: _run(given))
     except Interrupted as interrupted:

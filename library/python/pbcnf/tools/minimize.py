@@ -45,7 +45,7 @@ def main(words: Optional[List[str]] = None) -> int:
         "--jobs", metavar="N", type=options.count_from_one, default=min(2, os.cpu_count() or 1),
         help="so many solvers beside one another (2, if there are as many processors)")
     parser.add_argument("--unproved", action="store_true", help="have nothing refuted: the best solution that the solver finds is printed as any other")
-    given = parser.parse_args(words)
+    given = options.parse(parser, words, dict.fromkeys(("--at-most", "--at-most-minus"), "pbcnf-minimize chooses the bounds itself"))
     return status_of(_NAME, lambda: _run(given))
 
 

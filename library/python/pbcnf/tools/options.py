@@ -3,8 +3,9 @@
 from __future__ import annotations
 
 import argparse
+import difflib
 import math
-from typing import List, Optional
+from typing import List, Mapping, Optional
 
 import pbcnf
 from pbcnf.tools import sources
@@ -37,8 +38,29 @@ def parser(name: str, about: str, statuses: str) -> argparse.ArgumentParser:
     group = made.add_argument_group("options of encode")
     for option, words in _CHOICES.items():
         group.add_argument("--" + option, choices=words, help="of encode by itself: " + words[0])
-    group.add_argument("--budget", metavar="B", type=_count, help="the most fresh variables of a constraint, past which it goes to the adder")
+    group.add_argument("--budget", metavar="B", type=_budget, help="the most fresh variables of a constraint, past which it goes to the adder")
     return made
+
+
+def parse(made: argparse.ArgumentParser, words: Optional[List[str]], reasons: Mapping[str, str] = {}) -> argparse.Namespace:
+    """What the words say. `reasons` has options that the command does not take, with the reason."""
+    given, left = made.parse_known_args(words)
+    if left:
+        made.error(_why(made, left, reasons))
+    return given
+
+
+def _why(made: argparse.ArgumentParser, left: List[str], reasons: Mapping[str, str]) -> str:
+    """Why words are not taken: the first option among them, which may have taken the place of the file, else the first word."""
+    word = next((word for word in left if word.startswith("-")), left[0])
+    option = word.split("=")[0]
+    if not word.startswith("-"):
+        return "%s: nothing but options may follow the OPB file" % word
+    if option in reasons:
+        return "%s: %s" % (option, reasons[option])
+    known = [it for action in made._actions for it in action.option_strings]
+    near = difflib.get_close_matches(option, known, 1, 0.8)
+    return "there is no option %s; %s" % (option, "%s is one" % near[0] if near else "--help lists them")
 
 
 def add_encoding(made: argparse.ArgumentParser) -> None:
@@ -50,8 +72,8 @@ def add_encoding(made: argparse.ArgumentParser) -> None:
 def add_bounds(made: argparse.ArgumentParser) -> None:
     """Adds the options for a bound on the objective, for commands that choose none themselves."""
     group = made.add_mutually_exclusive_group()
-    group.add_argument("--at-most", metavar="B", type=_count, help="the objective is to be at most B")
-    group.add_argument("--at-most-minus", metavar="B", type=_count, help="the objective is to be at most -B")
+    group.add_argument("--at-most", metavar="B", type=_bound, help="the objective is to be at most B")
+    group.add_argument("--at-most-minus", metavar="B", type=_bound, help="the objective is to be at most -B")
 
 
 def problem_of(words: argparse.Namespace, name: str) -> bytes:
@@ -92,6 +114,18 @@ def _seconds(word: str) -> float:
 def _count(word: str) -> int:
     if not (word.isascii() and word.isdigit()):
         raise argparse.ArgumentTypeError("%s is no number in digits" % word)
+    return int(word)
+
+
+def _budget(word: str) -> int:
+    if not 1 <= _count(word) <= 10_000_000:
+        raise argparse.ArgumentTypeError("%s is not from 1 to 10,000,000" % word)
+    return int(word)
+
+
+def _bound(word: str) -> int:
+    if _count(word) >= 1 << 100:
+        raise argparse.ArgumentTypeError("%s is not below 2^100" % word)
     return int(word)
 
 

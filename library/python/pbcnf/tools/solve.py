@@ -43,7 +43,7 @@ def main(words: Optional[List[str]] = None) -> int:
     many.add_argument("--count", metavar="N", type=options.count_from_one, help="print so many solutions, if there are as many")
     many.add_argument("--all", action="store_true", help="print all solutions")
     parser.add_argument("--unproved", action="store_true", help="take the solver's word that there is none")
-    given = parser.parse_args(words)
+    given = options.parse(parser, words)
     return status_of(_NAME, lambda: _run(given))
 
 
