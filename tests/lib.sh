@@ -1,7 +1,8 @@
 # What the cases share. Each begins by sourcing it, in a new folder, with these names from tests/run: $pbcnf the program, $top the
 # top of the repository, $linked the folder of the C library, $work the folder of the whole run, $subject the case's name.
 #
-# A check is a line of the tally, `passed`, `failed` or `skipped`; the last two have a line in the report too.
+# A check is a line of the tally, `passed`, `failed` or `skipped`; the last two have a line in the report too. Where a command did not end
+# as it should, that is the check that failed: what is well behind it says nothing, and does not count, up to the next command.
 set -u
 
 state=$work/state
@@ -9,9 +10,10 @@ said=$state/said
 told=$state/told
 examples=$top/examples
 last=
+went_well=yes
 
 passed() {
-    printf 'passed\n' >>"$state/tally"
+    [ -z "$went_well" ] || printf 'passed\n' >>"$state/tally"
 }
 
 failed() {
@@ -19,6 +21,17 @@ failed() {
     printf 'FAILED %s: %s\n' "$subject" "$*" >>"$state/report"
     # Of a program that is wrong on purpose the first failure is enough.
     [ -z "${until_failed-}" ] || exit 1
+}
+
+# Counts how a command ended, for what is checked behind it.
+ended_well() {
+    went_well=yes
+    passed
+}
+
+ended_ill() {
+    went_well=
+    failed "$@"
 }
 
 # Says why a check is not made.
@@ -111,9 +124,9 @@ expect() {
     "$@" >"$said" 2>"$told"
     got=$?
     if [ "$got" -eq "$wanted" ]; then
-        passed
+        ended_well
     else
-        failed "$last: wanted the status $wanted, got $got; it told $(bytes_of "$told")"
+        ended_ill "$last: wanted the status $wanted, got $got; it told $(bytes_of "$told")"
     fi
 }
 
@@ -174,9 +187,9 @@ fault() {
     got=$?
     text "$state/due" "pbcnf: $line"
     if [ "$got" -eq "$status" ] && [ ! -s "$said" ] && cmp -s -- "$state/due" "$told"; then
-        passed
+        ended_well
     else
-        failed "$last: wanted the status $status and $line, got $got; it told $(bytes_of "$told") and said $(bytes_of "$said")"
+        ended_ill "$last: wanted the status $status and $line, got $got; it told $(bytes_of "$told") and said $(bytes_of "$said")"
     fi
 }
 
@@ -187,9 +200,9 @@ well() {
     "$@" >"$said" 2>"$told"
     got=$?
     if [ "$got" -eq 0 ] && [ -s "$said" ] && [ ! -s "$told" ]; then
-        passed
+        ended_well
     else
-        failed "$last: wanted the status 0 and words, got $got; it told $(bytes_of "$told") and said $(bytes_of "$said")"
+        ended_ill "$last: wanted the status 0 and words, got $got; it told $(bytes_of "$told") and said $(bytes_of "$said")"
     fi
 }
 

@@ -57,7 +57,7 @@ each() {
             >"$said" 2>"$told"
         status=$?
         if ! grep -q INJECTED "$trace"; then break; fi
-        if [ $status -ne "${statuses[0]}" ]; then failed "$last: wanted the status ${statuses[0]}, got $status"; else passed; fi
+        if [ $status -ne "${statuses[0]}" ]; then ended_ill "$last: wanted the status ${statuses[0]}, got $status"; else ended_well; fi
         [ ${#statuses[@]} -eq 1 ] || statuses=("${statuses[@]:1}")
         front "$said" due.said
         for one in n.*; do
@@ -65,8 +65,8 @@ each() {
         done
     done
     if [ $status -eq 0 ] && [ $n -gt 1 ] && is_whole; then
-        passed
+        ended_well
     else
-        failed "$last: wanted a whole run behind $n, in which nothing is refused, got the status $status"
+        ended_ill "$last: wanted a whole run behind $n, in which nothing is refused, got the status $status"
     fi
 }

@@ -63,7 +63,7 @@ kill -TERM $!
 wait $!
 status=$?
 last='core, ended by SIGTERM'
-if [ $status -eq 143 ]; then passed; else failed "$last: wanted the status 143, got $status"; fi
+if [ $status -eq 143 ]; then ended_well; else ended_ill "$last: wanted the status 143, got $status"; fi
 says
 if has_ended "$(cat started)"; then passed; else failed "$last: its solver still runs"; fi
 expect 0 ls room

@@ -18,9 +18,9 @@ ends() {
     got=$?
     ended=$(grep -c '^read(.* = 0$' trace)
     if [ $got -eq 0 ] && [ "$ended" -eq "$count" ] && [ -s "$said" -o "$1" = map ]; then
-        passed
+        ended_well
     else
-        failed "$last: wanted the status 0 and $count reads that give nothing, got $got and $ended"
+        ended_ill "$last: wanted the status 0 and $count reads that give nothing, got $got and $ended"
     fi
 }
 

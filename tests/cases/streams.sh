@@ -36,9 +36,9 @@ ends() {
     *) text "$state/due" "$3" ;;
     esac
     if [ $got -eq "$2" ] && [ ! -s "$said" ] && cmp -s "$state/due" "$told"; then
-        passed
+        ended_well
     else
-        failed "$last: wanted the status $2 and $(bytes_of "$state/due"), got $got; it told $(bytes_of "$told")"
+        ended_ill "$last: wanted the status $2 and $(bytes_of "$state/due"), got $got; it told $(bytes_of "$told")"
     fi
 }
 
