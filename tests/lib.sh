@@ -87,6 +87,11 @@ has_ended() {
     ! kill -0 "$1" 2>"$state/kill" || grep -q '^State:.*Z' "/proc/$1/status" 2>"$state/kill"
 }
 
+# ended_or PROCESS CMD..: whether the process has ended, or the command succeeds. So nothing is waited for that cannot come any more.
+ended_or() {
+    has_ended "$1" || "${@:2}"
+}
+
 # The program.
 pb() {
     "$pbcnf" "$@"

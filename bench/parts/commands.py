@@ -25,7 +25,8 @@ class Row:
         commands = {name: words for name, words in commands.items() if words}
         runs = timing.side_by_side(commands, bench.runs)
         self.own, self.c = self.difference({name: report.time_of(run) for name, run in runs.items()})
-        self.own_memory, self.c_memory = (timing.memory_of_long(runs[name], commands[name]) if name in runs else None for name in ("own", "C"))
+        memory = {name: timing.memory_of_long(run, commands[name]) for name, run in runs.items() if name != "less"}
+        self.own_memory, self.c_memory = memory["own"], memory.get("C")
         self.own_count = self.c_count = None
         if bench.counts_instructions and self.own is not None and self.c is not None:
             self.own_count, self.c_count = self.difference({name: timing.instructions_of(words) for name, words in commands.items()})

@@ -202,7 +202,7 @@ begin() {
     : >"$kit/log"
     PATH=$kit/bin:$PWD/bin "$copy/build" --program 2>"$1" &
     begun=$!
-    wait_until grep -q 'begin pb_left' "$kit/log"
+    wait_until ended_or $begun grep -q 'begin pb_left' "$kit/log"
 }
 
 # One that is ended ends what it began, and leaves no stamp.
@@ -219,7 +219,7 @@ absent "$copy/crates/pb_left/out/rlib/stamp"
 begin first
 PATH=$kit/bin:$PWD/bin "$copy/build" --program 2>second &
 second=$!
-wait_until grep -q waiting second
+wait_until ended_or $second grep -q waiting second
 last='two builds at once'
 holds second 'build: waiting for another build to end'
 noted 'begin pb_left'

@@ -58,7 +58,7 @@ mkdir bin
 text bin/cadical '#!/bin/sh' "[ \"\$1\" = --help ] && exit" "echo \$\$ >'$PWD/started'" 'exec sleep 1000'
 chmod 755 bin/cadical
 "$core" "$examples/pigeons.opb" --solver bin/cadical >"$said" 2>"$told" &
-wait_until test -s started
+wait_until ended_or $! test -s started
 kill -TERM $!
 wait $!
 status=$?

@@ -237,7 +237,7 @@ for command in solve minimize; do
     rm -f called
     PATH=$PWD/plays:$PATH "$examples/$command" "$opb" >slow.said 2>slow.told &
     slow=$!
-    wait_until test -s called
+    wait_until ended_or "$slow" test -s called
     expect 0 test -n "$(find temporary -type f -size +0)"
     kill "$slow"
     wait "$slow"

@@ -7,7 +7,8 @@ needs valgrind
 # another. The run has to end well.
 count() {
     count=
-    valgrind --tool=callgrind --callgrind-out-file=counted --log-file="$state/valgrind" "$pbcnf" "$@" >"$said" 2>"$told" && [ -s "$said" ] || return
+    valgrind --tool=callgrind --callgrind-out-file=counted --log-file="$state/valgrind" "$pbcnf" "$@" >"$said" 2>"$told" || return
+    [ -s "$said" ] || return
     # Objects have numbers, and the line behind a call is what it takes in all.
     count=$(awk -v own="$pbcnf" '
         /^c?ob=/ && substr($0, length($1) + 2) == own { number = $1; sub("^c?ob=", "", number) }

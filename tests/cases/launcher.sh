@@ -290,7 +290,7 @@ builds "echo \$\$ >'$PWD/number'" 'exec sleep 1000'
 rm -f number
 PATH=$PWD/bin "$copy/pbcnf" bench 1 0 2>"$told" &
 launcher=$!
-wait_until test -s number
+wait_until ended_or $launcher test -s number
 kill -TERM $launcher
 wait $launcher
 expect 0 test $? -eq 143

@@ -63,7 +63,7 @@ awk -v n=20 'BEGIN {
 interrupted() {
     mkdir "tmp.$1"
     : >number
-    { wait_until test -s number && wait_until grep -q '^o ' "$said" && kill -s "$1" "$(cat number)"; } >killed 2>&1 &
+    { wait_until test -s number && wait_until ended_or "$(cat number)" grep -q '^o ' "$said" && kill -s "$1" "$(cat number)"; } >killed 2>&1 &
     TMPDIR=$PWD/tmp.$1 sh -c 'echo $$ >number && exec examples/minimize lamps.opb'
     echo "ended with $?; left: $(ls -A "tmp.$1")"
     wait

@@ -135,7 +135,7 @@ source_is pb_left lib '// long'
 : >"$kit/log"
 quick >first &
 first=$!
-wait_until grep -q 'begin pb_left' "$kit/log"
+wait_until ended_or $first grep -q 'begin pb_left' "$kit/log"
 kill -TERM $first
 wait $first
 expect 0 test $? -eq 143
