@@ -165,34 +165,33 @@ class Races(Folder):
     FRAT = "".join("o %d %d %d 0\n" % (id, *clause) for id, clause in enumerate(SQUARE, 1)) + "a 5 1 0 l 2 1 0\na 6 0\n"
     DRAT = "1 0\n0\n"
 
-    def race(self, first, *others, rival=None, size=0):
+    def race(self, first, *others, size=0):
         with Watch() as watch, Workspace() as workspace, unittest.mock.patch("pbcnf.tools.reasons._LONG", size), unittest.mock.patch("shutil.which", return_value=None):
             cnf = self.cnf(SQUARE)
             first, *others = [Played(watch, *words).attempt(workspace, cnf) for words in (first, *others)]
             watch.wait([first.run.running])
-            other = None if rival is None else Played(watch, *rival)
-            with open(reasons.make_lrat([first, *others], other, watch, workspace)[1]) as lrat:
+            with open(reasons.make_lrat([first, *others], watch, workspace)[1]) as lrat:
                 return refutes(SQUARE, lrat)
 
     def test_first_text_is_taken(self):
         drat, frat = (Reasons.DRAT, self.DRAT), (Reasons.FRAT, self.FRAT)
         self.assertTrue(self.race(drat))
         self.assertTrue(self.race(frat))
-        self.assertTrue(self.race(drat, rival=(*frat, "0", "rival")))
+        self.assertTrue(self.race(drat, (*frat, "0", "rival")))
         # One that never ends, fails, or has no reasons.
-        self.assertTrue(self.race(drat, rival=(*frat, "900", "rival")))
-        self.assertTrue(self.race(drat, rival=(*frat, "0", "rival", Verdict.UNKNOWN)))
-        self.assertTrue(self.race(drat, rival=(Reasons.FRAT, "", "0", "rival")))
-        self.assertTrue(self.race((Reasons.DRAT, "1 2 0\n"), rival=(*frat, "0.3", "rival")))
+        self.assertTrue(self.race(drat, (*frat, "900", "rival")))
+        self.assertTrue(self.race(drat, (*frat, "0", "rival", Verdict.UNKNOWN)))
+        self.assertTrue(self.race(drat, (Reasons.FRAT, "", "0", "rival")))
+        self.assertTrue(self.race((Reasons.DRAT, "1 2 0\n"), (*frat, "0.3", "rival")))
         # The rival has ended before the other one.
         self.assertTrue(self.race(frat, (*drat, "900", "other")))
         self.assertTrue(self.race((Reasons.FRAT, "o 1 1 2 0\n"), (*drat, "0.3", "other")))
         self.assertTrue(self.race((Reasons.FRAT, "o 1 1 2 0\n"), (*drat, "0.3", "other"), size=1000))
 
     def test_nobody_makes_one(self):
-        for rival in (None, (Reasons.FRAT, "o 1 1 2 0\n", "0", "rival")):
+        for others in ((), ((Reasons.FRAT, "o 1 1 2 0\n", "0", "rival"),)):
             with self.assertRaises(Stop) as raised:
-                self.race((Reasons.DRAT, "1 2 0\n"), rival=rival)
+                self.race((Reasons.DRAT, "1 2 0\n"), *others)
             self.assertEqual(raised.exception.status, 9)
             self.assertRegex(raised.exception.words, "^the solver's reasons: .* so that nothing is refuted$")
 
@@ -204,6 +203,7 @@ class Races(Folder):
                 attempt = Played(watch, kind, text).attempt(workspace, "cnf")
                 with unittest.mock.patch("shutil.which", return_value=trim):
                     self.assertEqual(reasons.takes_long([attempt], rival), wanted)
+                    self.assertEqual(reasons.is_long(attempt), wanted or rival is not None)
 
 
 if __name__ == "__main__":

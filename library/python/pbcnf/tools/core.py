@@ -17,7 +17,7 @@ from pbcnf.tools import options, program, solvers, tracing
 from pbcnf.tools.opb_text import Statement, statements, token_at
 from pbcnf.tools.output import complain, say, status_of, test_output
 from pbcnf.tools.program import Program, Refutation
-from pbcnf.tools.reasons import make_lrat
+from pbcnf.tools.reasons import is_long, make_lrat
 from pbcnf.tools.solvers import Attempt, Files, Verdict
 from pbcnf.tools.statuses import Status, Stop
 from pbcnf.tools.watch import Interrupted, Watch
@@ -107,7 +107,11 @@ class _Core:
         if verdict is Verdict.UNKNOWN:
             raise Stop(Status.NO_ANSWER, run.ended())
         if verdict is Verdict.NO_MODEL and self._solver.reasons is not None:
-            _, self._lrat = make_lrat([Attempt(self._solver, files, run)], self._rival, self._watch, self._workspace)
+            attempts = [Attempt(self._solver, files, run)]
+            if self._rival is not None and is_long(attempts[0]):
+                beside = Files(files.cnf, self._file("rival.model"), self._file("rival.reasons"))
+                attempts.append(Attempt(self._rival, beside, self._rival.start(beside)))
+            _, self._lrat = make_lrat(attempts, self._watch, self._workspace)
         return verdict
 
     def _print_solution(self, proved: Program) -> int:

@@ -15,7 +15,7 @@ from pbcnf.tools import learning, optimizers
 from pbcnf.tools.encodings import Encodings
 from pbcnf.tools.optimizers import Descent
 from pbcnf.tools.program import Program, Refutation, Solution, Summary, bound_option
-from pbcnf.tools.reasons import make_lrat, takes_long
+from pbcnf.tools.reasons import is_long, make_lrat, takes_long
 from pbcnf.tools.solvers import Attempt, Effort, Files, Learner, Reasons, Run, Solver, Team, Verdict
 from pbcnf.tools.statuses import Status, Stop
 from pbcnf.tools.watch import Running, Watch
@@ -89,14 +89,21 @@ class Oracle:
     def pose_to_all(self, bound: int) -> Question:
         """The same, and others beside it, whose reasons are soon checked where the solver's are not."""
         question = self._pose(self._team.solver, bound, None)
-        if self._team.prover is not None and self._team.rival is not None:
+        if self._team.prover is not None:
+            self._add_rival(question)
+            self._add_learner(question)
+        return question
+
+    def _add_rival(self, question: Question) -> None:
+        if self._team.rival is not None:
             files = self._files(question.cnf, "rival")
             question.attempts.append(Attempt(self._team.rival, files, self._team.rival.start(files)))
-        if self._team.prover is not None and learning.can_take(self._program.text):
+
+    def _add_learner(self, question: Question) -> None:
+        if question.bound is not None and learning.can_take(self._program.text):
             files = self._files(question.cnf + ".learner", "learner")
             learner = Learner(self._watch)
-            question.attempts.append(Attempt(learner, files, learner.start(self._program.problem, bound, files)))
-        return question
+            question.attempts.append(Attempt(learner, files, learner.start(self._program.problem, question.bound, files)))
 
     def _pose(self, solver: Solver, bound: Optional[int], effort: Optional[Effort]) -> Question:
         self._count += 1
@@ -163,7 +170,10 @@ class Oracle:
         if refused is None or refused.bound != bound:
             raise Stop(Status.NO_ANSWER, "%s says now this, now that" % solver.name)
         self._told.refutes(takes_long(refused.attempts, rival))
-        attempt, lrat = make_lrat(refused.attempts, rival, self._watch, self._workspace)
+        if len(refused.attempts) == 1 and is_long(refused.first):
+            self._add_rival(refused)
+            self._add_learner(refused)
+        attempt, lrat = make_lrat(refused.attempts, self._watch, self._workspace)
         if attempt.solver.reasons is Reasons.DERIVATION:
             return Refutation(attempt.files.cnf, attempt.files.reasons, lrat)
         proof = self._workspace.path("proof")

@@ -9,7 +9,7 @@ import sys
 from typing import Callable, Dict, List, Optional, Sequence, Tuple
 
 from pbcnf.tools.hints import lrat_lines
-from pbcnf.tools.solvers import Attempt, Files, Reasons, Solver, Verdict
+from pbcnf.tools.solvers import Attempt, Reasons, Solver, Verdict
 from pbcnf.tools.statuses import Status, Stop
 from pbcnf.tools.watch import Running, Watch
 from pbcnf.tools.workspace import Workspace
@@ -30,11 +30,13 @@ def takes_long(attempts: Sequence[Attempt], rival: Optional[Solver]) -> bool:
     return alone and _size(attempts[0]) > _VERY_LARGE and not shutil.which("drat-trim")
 
 
-def make_lrat(attempts: Sequence[Attempt], rival: Optional[Solver], watch: Watch, workspace: Workspace) -> Tuple[Attempt, str]:
-    """One of these attempts, and the path of an LRAT text for its CNF. One has found no model, and others may still run.
+def is_long(attempt: Attempt) -> bool:
+    """Whether its reasons are so long that it pays to start other programs beside one another."""
+    return attempt.solver.reasons is Reasons.DRAT and _size(attempt) > _LONG and not shutil.which("drat-trim")
 
-    The rival is one who may try it too.
-    """
+
+def make_lrat(attempts: Sequence[Attempt], watch: Watch, workspace: Workspace) -> Tuple[Attempt, str]:
+    """One of these attempts, and the path of an LRAT text for its CNF. One has found no model, and others may still run."""
     first = next(attempt for attempt in attempts if attempt.run.running.status is not None)
     size = _size(first)
     if first.solver.reasons in _READY:
@@ -43,15 +45,15 @@ def make_lrat(attempts: Sequence[Attempt], rival: Optional[Solver], watch: Watch
     others = [attempt for attempt in attempts if attempt is not first]
     if _trim(first, lrat, watch, workspace):
         return first, lrat
-    if size > _LONG and (others or rival):
-        return _Race([first, *others], rival, watch, workspace).run()
+    if size > _LONG and others:
+        return _Race([first, *others], watch, workspace).run()
     try:
         _write(first, lrat, watch.test)
         return first, lrat
     except Stop:
         if not others:
             raise
-    return _Race(others, None, watch, workspace).run()
+    return _Race(others, watch, workspace).run()
 
 
 def _ready(attempt: Attempt, workspace: Workspace) -> str:
@@ -92,7 +94,7 @@ def _refused(words: str) -> Stop:
 class _Race:
     """Makes texts beside one another, of the reasons of those who have found no model and of those who still look for one."""
 
-    def __init__(self, attempts: Sequence[Attempt], rival: Optional[Solver], watch: Watch, workspace: Workspace) -> None:
+    def __init__(self, attempts: Sequence[Attempt], watch: Watch, workspace: Workspace) -> None:
         self._watch = watch
         self._workspace = workspace
         self._looking: List[Attempt] = []
@@ -101,9 +103,6 @@ class _Race:
             self._looking.append(attempt)
             if attempt.run.running.status is not None:
                 self._make(attempt)
-        if rival is not None and all(attempt.solver is not rival for attempt in attempts):
-            files = Files(attempts[0].files.cnf, workspace.path("model.rival"), workspace.path("reasons.rival"))
-            self._looking.append(Attempt(rival, files, rival.start(files)))
 
     def run(self) -> Tuple[Attempt, str]:
         """The first that is made."""
