@@ -37,7 +37,7 @@ class Numbers(unittest.TestCase):
 
     def test_the_interface(self):
         self.assertIn("#define PBCNF_ABI %d\n" % _native.ABI, read(HEADER))
-        with open(os.path.join(os.path.dirname(NUMBERS), "c.rs")) as file:
+        with open(os.path.join(os.path.dirname(NUMBERS), "../sys/src/lib.rs")) as file:
             self.assertIn("pub const ABI: u32 = %d;" % _native.ABI, file.read())
 
     def test_the_module(self):
