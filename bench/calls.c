@@ -34,7 +34,7 @@ static void time_constraint(int count, char **words) {
   static int64_t coefficients[TERMS];
   static int32_t literals[TERMS], integers[1 << 20];
   const int64_t right = atoll(words[1]);
-  pbcnf_side side = {(uint32_t)atoi(words[0]), 1, (uint64_t)right, right < 0 ? UINT64_MAX : 0};
+  pbcnf_side side = pbcnf_side_of((uint32_t)atoi(words[0]), right, 1);
   pbcnf_size size;
   pbcnf_refusal refusal;
   size_t terms = (size_t)(count - 2) / 2;
@@ -94,7 +94,7 @@ static struct many read_many(const char *name) {
   for (size_t i = 0, at = 0; i < m.constraints; i++) {
     const uint32_t relation = (uint32_t)next_number(file);
     const int64_t right = next_number(file);
-    m.sums[i] = (pbcnf_sum){relation, 0, (uint64_t)next_number(file), (uint64_t)right, right < 0 ? UINT64_MAX : 0};
+    m.sums[i] = pbcnf_sum_of(relation, right, (uint64_t)next_number(file));
     for (uint64_t term = 0; term < m.sums[i].terms && at < m.terms; term++, at++) {
       m.coefficients[at] = next_number(file);
       m.literals[at] = (int32_t)next_number(file);

@@ -304,6 +304,20 @@ static inline void pbcnf_add_all(const int32_t *integers, uint64_t length, void 
   for (uint64_t i = 0; i < length; i++) add(solver, integers[i]);
 }
 
+/* In C alone, of numbers of 64 bits: a bound, and what stands beside a sum, of one constraint and of one of many. */
+static inline pbcnf_bound pbcnf_bound_of(int64_t most) {
+  const pbcnf_bound bound = {1, (uint64_t)most, most < 0 ? UINT64_MAX : 0};
+  return bound;
+}
+static inline pbcnf_side pbcnf_side_of(uint32_t relation, int64_t right, uint32_t first) {
+  const pbcnf_side side = {relation, first, (uint64_t)right, right < 0 ? UINT64_MAX : 0};
+  return side;
+}
+static inline pbcnf_sum pbcnf_sum_of(uint32_t relation, int64_t right, uint64_t terms) {
+  const pbcnf_sum sum = {relation, 0, terms, (uint64_t)right, right < 0 ? UINT64_MAX : 0};
+  return sum;
+}
+
 /* ---- fronts. An empty vector has no address, and a slice of the library always has one: so each call is made by a function that
  * stands before it under its name, and that puts an address in the place of a pointer whose count is 0. They tell the compiler too what
  * the caller owes. With PBCNF_EXPORTS defined before this header is included there are none, and the calls are the exports alone. */

@@ -18,7 +18,7 @@ static void add(void *solver, int32_t literal) { ccadical_add(solver, literal); 
 static uint32_t add_constraint(CCaDiCaL *solver, const int64_t *coefficients, const int32_t *literals, size_t count, uint32_t relation,
                                int64_t right, uint32_t first) {
   const pbcnf_options options = PBCNF_OPTIONS_DEFAULT;
-  const pbcnf_side side = {relation, first, (uint64_t)right, right < 0 ? UINT64_MAX : 0};
+  const pbcnf_side side = pbcnf_side_of(relation, right, first);
   static int32_t clauses[1 << 16];
   pbcnf_size size;
   pbcnf_refusal refusal;

@@ -55,6 +55,20 @@ static void try_reason(const struct constant *reason, pbcnf_refusal r, const cha
   judge(says(r, due), "the words of its comment", reason->name, (long)reason->number);
 }
 
+/* A number of 64 bits is the same in two words, of which the high one has its sign alone. */
+static void try_words(void) {
+  static const int64_t numbers[] = {0, 1, -1, 1ll << 40, -(1ll << 40), INT64_MAX, INT64_MIN};
+  for (size_t i = 0; i < COUNT(numbers); i++) {
+    const uint64_t low = (uint64_t)numbers[i], high = numbers[i] < 0 ? UINT64_MAX : 0;
+    const pbcnf_bound bound = pbcnf_bound_of(numbers[i]);
+    const pbcnf_side side = pbcnf_side_of(PBCNF_AT_MOST, numbers[i], 9);
+    const pbcnf_sum sum = pbcnf_sum_of(PBCNF_EQUAL, numbers[i], 7);
+    judge(bound.set == 1 && bound.low == low && bound.high == high, "a bound", "bound_of", (long)i);
+    judge(side.relation == PBCNF_AT_MOST && side.first == 9 && side.right_low == low && side.right_high == high, "a side", "side_of", (long)i);
+    judge(sum.relation == PBCNF_EQUAL && sum.unused == 0 && sum.terms == 7 && sum.right_low == low && sum.right_high == high, "a sum", "sum_of", (long)i);
+  }
+}
+
 /* The library is of the header's version and interface. */
 static void try_version(void) {
   unsigned major, minor, patch;
@@ -66,6 +80,7 @@ static void try_version(void) {
 int main(void) {
   char due[200];
   try_version();
+  try_words();
   for (size_t i = 0; i < COUNT(expected); i++) {
     const char *comment = expected[i].comment, *name;
     pbcnf_refusal r = {3, 7, 0, PBCNF_REFUSED, 0, expected[i].number, 0, 0, 0};
