@@ -3,6 +3,7 @@
 from __future__ import annotations
 
 import ctypes
+import struct
 from array import array
 from collections.abc import Mapping as Mappings
 from operator import index
@@ -159,9 +160,13 @@ def posed_all(constraints: Iterable[Tuple[Iterable[Tuple[int, int]], str, int]],
 
 def _packed(number: int, terms: int, relation: str, right: int) -> bytes:
     """What stands beside the terms of the constraint of this number."""
-    if relation not in RELATIONS:
-        raise usage("the relation of constraint %d is %r, and not one of >=, <= and =" % (number, relation))
-    return SUM.pack(RELATIONS[relation], 0, terms, *_words(index(right), "the right side of constraint %d" % number))
+    value = index(right)
+    try:
+        return SUM.pack(RELATIONS[relation], 0, terms, value & ((1 << 64) - 1), value >> 64)
+    except KeyError:
+        raise usage("the relation of constraint %d is %r, and not one of >=, <= and =" % (number, relation)) from None
+    except struct.error:
+        raise usage("the right side of constraint %d does not fit in 128 bits" % number) from None
 
 
 def _coefficients(values: List[int]) -> array[int]:
