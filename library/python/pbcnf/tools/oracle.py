@@ -77,6 +77,9 @@ class Oracle:
         self._told = told
         self._count = 0
         self._refused: Optional[Question] = None
+        # Whether the search over the constraints is asked too, and the derivation that it wrote.
+        self._learns = True
+        self._learned = ""
 
     def ask(self, bound: Optional[int], effort: Optional[Effort] = None) -> Answer:
         """A solution of at most this value, or that there is none, or that the effort was not enough to know."""
@@ -88,22 +91,23 @@ class Oracle:
 
     def pose_to_all(self, bound: int) -> Question:
         """The same, and others beside it, whose reasons are soon checked where the solver's are not."""
+        # This one needs no CNF, which may be large.
+        learner = self._learner(bound) if self._team.prover is not None else []
         question = self._pose(self._team.solver, bound, None)
-        if self._team.prover is not None:
-            self._add_rival(question)
-            self._add_learner(question)
+        question.attempts += learner + (self._rival(question.cnf) if self._team.prover is not None else [])
         return question
 
-    def _add_rival(self, question: Question) -> None:
-        if self._team.rival is not None:
-            files = self._files(question.cnf, "rival")
-            question.attempts.append(Attempt(self._team.rival, files, self._team.rival.start(files)))
+    def _learner(self, bound: Optional[int]) -> List[Attempt]:
+        """Has the search over the constraints look for a refutation, if it can."""
+        if bound is None or not self._learns or not learning.can_take(self._program.text):
+            return []
+        learner, files = Learner(self._watch), self._files(self._workspace.path("cnf.learner"), "learner")
+        return [Attempt(learner, files, learner.start(self._program.problem, bound, files))]
 
-    def _add_learner(self, question: Question) -> None:
-        if question.bound is not None and learning.can_take(self._program.text):
-            files = self._files(question.cnf + ".learner", "learner")
-            learner = Learner(self._watch)
-            question.attempts.append(Attempt(learner, files, learner.start(self._program.problem, question.bound, files)))
+    def _rival(self, cnf: str) -> List[Attempt]:
+        """Has the rival look for a refutation, if there is one."""
+        rival, files = self._team.rival, self._files(cnf, "rival")
+        return [] if rival is None else [Attempt(rival, files, rival.start(files))]
 
     def _pose(self, solver: Solver, bound: Optional[int], effort: Optional[Effort]) -> Question:
         self._count += 1
@@ -153,7 +157,15 @@ class Oracle:
         """
         assert best.value is not None
         refutation = self._refutation(best.value - 1)
-        self._program.optimum(best, refutation)
+        try:
+            self._program.optimum(best, refutation)
+        except Stop:
+            if refutation.proof != self._learned:
+                raise
+            # What was learned is refused: the prover's reasons are of other making.
+            self._refused, self._learns = None, False
+            refutation = self._refutation(best.value - 1)
+            self._program.optimum(best, refutation)
         if keep is not None:
             _put(refutation, keep)
             put_whole(self._workspace.write("best.model", best.model), os.path.join(keep, "best.model"))
@@ -171,10 +183,10 @@ class Oracle:
             raise Stop(Status.NO_ANSWER, "%s says now this, now that" % solver.name)
         self._told.refutes(takes_long(refused.attempts, rival))
         if len(refused.attempts) == 1 and is_long(refused.first):
-            self._add_rival(refused)
-            self._add_learner(refused)
+            refused.attempts += self._learner(bound) + self._rival(refused.cnf)
         attempt, lrat = make_lrat(refused.attempts, self._watch, self._workspace)
         if attempt.solver.reasons is Reasons.DERIVATION:
+            self._learned = attempt.files.reasons
             return Refutation(attempt.files.cnf, attempt.files.reasons, lrat)
         proof = self._workspace.path("proof")
         self._program.encode(refused.options, refused.cnf, proof)
