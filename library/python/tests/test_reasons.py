@@ -83,9 +83,16 @@ class Texts(Folder):
     def test_hints_are_put_in_order(self):
         # The last ones come first in an analysis; those of one literal, and of clauses that are false at once, are not named.
         for lines in (("a 5 1 0 l 2 1 0", "a 6 2 0 l 3 0", "a 7 0 l 4 0"), ("a 5 1 0 l 1 2 0", "d 1 1 2 0", "a 6 0 l 4 3 0", "f 5 1 0"),
-                      ("a 5 1 0 l 1 2 0", "a 6 2 0 l 3 5 0", "a 7 0")):
+                      ("a 5 1 0 l 1 2 0", "a 6 2 0 l 3 5 0", "a 7 0"), ("a 5 1 0 l 2 1 0", "a 6 -1 0 l 3 4 0", "a 7 0 l 6 0")):
             made = self.lrat(SQUARE, *lines)
             self.assertTrue(refutes(SQUARE, made), made)
+
+    def test_hints_against_a_unit(self):
+        """Where all hints are used, what they make true is false by a clause of one literal, which is not named."""
+        with unittest.mock.patch("pbcnf.tools.frat._Search", side_effect=AssertionError("nothing has to be looked for")):
+            clauses = [[-3], [1, 2, 3], [-1, 3], [-2, 3]]
+            self.assertTrue(refutes(clauses, self.lrat(clauses, "a 5 2 0 l 3 2 0", "a 6 0 l 4 5 0")))
+            self.assertTrue(refutes(clauses, self.lrat(clauses, "a 5 2 0 l 3 2 0", "a 6 0 l 5 4 4 0")))
 
     def test_clauses_without_hints(self):
         for lines in (("a 5 1 0", "a 6 0"), ("a 5 1 0 l 1 0", "a 6 0 l 4 0"), ("a 5 1 2 0", "a 6 1 0 l 5 0", "a 7 0")):

@@ -146,8 +146,9 @@ class _Refutation:
                         return self._behind(hint, false)
                     false[-free] = hint
             if len(left) == len(tried) and not self._add_units(id, left, false):
-                return None
-        return None
+                break
+        unit = min((self._units.get(literal, id) for literal in false), default=id)
+        return self._behind(unit, false) if unit < id else None
 
     def _add_units(self, id: int, left: List[int], false: Dict[int, int]) -> bool:
         """Adds the literals of these clauses that are false by a clause of one literal. Is there any?"""
