@@ -19,6 +19,7 @@ import os
 import sys
 from typing import IO, Dict, Iterator, List, Set, Tuple
 
+from pbcnf.tools.children import command_of
 from pbcnf.tools.loading import Loaded, Terms, at_most, load
 from pbcnf.tools.slacks import Propagation
 
@@ -32,7 +33,6 @@ _CLAUSE_GROWTH = 1 / 0.999
 _GREAT = 1e100
 # A longer text is not tried.
 _LONG = 2000000
-_RUN = "import sys; sys.path.insert(0, sys.argv.pop(1)); from pbcnf.tools.learning import main; sys.exit(main(sys.argv[1:]))"
 
 
 class Derivation:
@@ -275,8 +275,7 @@ def can_take(text: bytes) -> bool:
 
 def command(*words: str) -> List[str]:
     """The command that runs this with these words."""
-    package = os.path.dirname(os.path.dirname(os.path.dirname(os.path.abspath(__file__))))
-    return [sys.executable, "-c", _RUN, package, *words]
+    return command_of("learning", list(words))
 
 
 def main(words: List[str]) -> int:

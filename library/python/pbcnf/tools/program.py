@@ -9,6 +9,7 @@ import sys
 from dataclasses import dataclass, field
 from typing import Iterator, List, Mapping, NamedTuple, Optional, Sequence
 
+from pbcnf.tools.children import within
 from pbcnf.tools.output import tell
 from pbcnf.tools.statuses import Status, Stop
 from pbcnf.tools.values import Values
@@ -95,8 +96,7 @@ class Program:
 
     def encode_within(self, size: int, options: Sequence[str], cnf: str) -> Optional[Summary]:
         """Writes the CNF, if it is not longer than so many bytes; else what is there of it is cut off."""
-        # The shell counts in blocks of 512 bytes. A core of the run that passes the limit would be of no use.
-        words = ["/bin/sh", "-c", 'ulimit -c 0; ulimit -f "$0" && exec "$@"', str(size // 512 + 1), self._path, "encode", self.problem, cnf, *options]
+        words = within(size, [self._path, "encode", self.problem, cnf, *options])
         said = self._workspace.path("said")
         with open(said, "wb") as answer:
             if self._watch.run(words, stdout=answer, stderr=subprocess.DEVNULL) == 0:

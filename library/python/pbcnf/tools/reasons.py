@@ -5,9 +5,9 @@ from __future__ import annotations
 
 import os
 import shutil
-import sys
 from typing import Callable, Dict, List, Optional, Sequence, Tuple
 
+from pbcnf.tools.children import command_of
 from pbcnf.tools.hints import lrat_lines
 from pbcnf.tools.solvers import Attempt, Reasons, Solver, Verdict
 from pbcnf.tools.statuses import Status, Stop
@@ -20,8 +20,6 @@ _LARGE = 50000
 _LONG = 500000
 _VERY_LARGE = 2000000
 _READY = (Reasons.LRAT, Reasons.DERIVATION)
-# Runs `pbcnf-hints` of the package that lies there, the more nicely the longer it takes.
-_HINTS = "import os, sys; os.nice(int(sys.argv.pop(1))); sys.path.insert(0, sys.argv.pop(1)); from pbcnf.tools.hints import main; sys.exit(main())"
 
 
 def takes_long(attempts: Sequence[Attempt], rival: Optional[Solver]) -> bool:
@@ -126,10 +124,10 @@ class _Race:
         self._looking.remove(attempt)
         if attempt.run.verdict() is Verdict.NO_MODEL:
             lrat = self._workspace.path("lrat.%s" % attempt.solver.name)
-            nice = "10" if attempt.solver.reasons is Reasons.DRAT else "0"
-            package = os.path.dirname(os.path.dirname(os.path.dirname(os.path.abspath(__file__))))
+            # Where hints have to be looked for it takes long, and others may be sooner.
+            command = command_of("hints", [attempt.files.cnf, attempt.files.reasons], 10 if attempt.solver.reasons is Reasons.DRAT else 0)
             with open(lrat, "wb") as made, open(self._workspace.path("hints.told"), "wb") as told:
-                run = self._watch.start([sys.executable, "-c", _HINTS, nice, package, attempt.files.cnf, attempt.files.reasons], made, told)
+                run = self._watch.start(command, made, told)
             self._making[run] = attempt, lrat
 
     def _end(self, attempt: Attempt, lrat: str) -> Tuple[Attempt, str]:

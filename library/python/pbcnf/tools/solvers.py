@@ -11,6 +11,7 @@ from enum import Enum
 from typing import Dict, List, Mapping, NamedTuple, Optional, Tuple, Union
 
 from pbcnf.tools import learning
+from pbcnf.tools.children import within
 from pbcnf.tools.statuses import Status, Stop
 from pbcnf.tools.watch import Running, Watch
 
@@ -25,7 +26,7 @@ _MINISAT_FILE = ".minisat"
 PROVER = "cadical"
 # It writes reasons that come with hints, and otherwise finds them later than CaDiCaL.
 RIVAL = "cryptominisat5"
-# So many bytes of reasons a rival may write.
+# So many bytes of reasons may be written beside the prover's.
 _ROOM = 1 << 30
 
 
@@ -105,8 +106,7 @@ class Solver:
         if files.reasons and self.reasons is Reasons.FRAT:
             # What it tells as it is ended is of no use.
             told = subprocess.DEVNULL
-            # The shell counts in blocks of 512 bytes.
-            command = ["/bin/sh", "-c", 'ulimit -c 0; ulimit -f "$0" && exec "$@"', str(_ROOM // 512), *command]
+            command = within(_ROOM, command)
         with open(files.model, "wb") as said:
             try:
                 running = self._watch.start(command, subprocess.DEVNULL if is_minisat else said.fileno(), told, seconds)
@@ -157,8 +157,8 @@ class Learner:
     def start(self, problem: str, bound: int, files: Files) -> Run:
         """Starts it over a problem with a bound on its objective."""
         with open(files.model, "wb") as said:
-            words = learning.command(problem, str(bound), files.cnf, files.reasons)
-            return Run(self, self._watch.start(words, stdout=said.fileno(), stderr=subprocess.DEVNULL), files.model)
+            command = within(_ROOM, learning.command(problem, str(bound), files.cnf, files.reasons))
+            return Run(self, self._watch.start(command, stdout=said.fileno(), stderr=subprocess.DEVNULL), files.model)
 
 
 class Attempt(NamedTuple):
