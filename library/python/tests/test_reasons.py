@@ -204,13 +204,12 @@ class Races(Folder):
 
     def test_what_takes_long(self):
         with Watch() as watch, Workspace() as workspace:
-            for text, trim, kind, rival, wanted in (("1 0\n" * 500001, None, Reasons.DRAT, None, True), ("1 0\n" * 500001, "drat-trim", Reasons.DRAT, None, False),
-                                                    ("1 0\n" * 500001, None, Reasons.LRAT, None, False), ("1 0\n", None, Reasons.DRAT, None, False),
-                                                    ("1 0\n" * 500001, None, Reasons.DRAT, self, False)):
+            for text, trim, kind, wanted in (("1 0\n" * 500001, None, Reasons.DRAT, True), ("1 0\n" * 500001, "drat-trim", Reasons.DRAT, False),
+                                             ("1 0\n" * 500001, None, Reasons.LRAT, False), ("1 0\n", None, Reasons.DRAT, False)):
                 attempt = Played(watch, kind, text).attempt(workspace, "cnf")
                 with unittest.mock.patch("shutil.which", return_value=trim):
-                    self.assertEqual(reasons.takes_long([attempt], rival), wanted)
-                    self.assertEqual(reasons.is_long(attempt), wanted or rival is not None)
+                    self.assertEqual((reasons.takes_long([attempt]), reasons.is_long(attempt)), (wanted, wanted))
+                    self.assertFalse(reasons.takes_long([attempt, attempt]))
 
 
 if __name__ == "__main__":

@@ -73,7 +73,7 @@ class _Core:
         self._watch = watch
         self._workspace = workspace
         self._solver = solver
-        self._rival = solvers.find_rival(solver, watch)
+        self._team = solvers.Team(solver, solver, watch)
         self._options = options.of_encode(given)
         self._lrat = ""
 
@@ -108,9 +108,9 @@ class _Core:
             raise Stop(Status.NO_ANSWER, run.ended())
         if verdict is Verdict.NO_MODEL and self._solver.reasons is not None:
             attempts = [Attempt(self._solver, files, run)]
-            if self._rival is not None and is_long(attempts[0]):
+            if is_long(attempts[0]) and self._team.rival is not None:
                 beside = Files(files.cnf, self._file("rival.model"), self._file("rival.reasons"))
-                attempts.append(Attempt(self._rival, beside, self._rival.start(beside)))
+                attempts.append(Attempt(self._team.rival, beside, self._team.rival.start(beside)))
             _, self._lrat = make_lrat(attempts, self._watch, self._workspace)
         return verdict
 

@@ -173,7 +173,7 @@ class Oracle:
     def _refutation(self, bound: Optional[int]) -> Refutation:
         """The refutation that there is a solution within the bound: that of the solver's run where the solver is the prover, else that
         of one more run. The derivation is that of the same CNF, which is written once more beside it."""
-        solver, prover, rival = self._team
+        solver, prover = self._team.solver, self._team.prover
         if prover is None:
             raise Stop(Status.UNPROVED, "%s finds nothing better, and gives no reasons that would refute it" % solver.name)
         if self._refused is None or self._refused.bound != bound or solver is not prover:
@@ -181,7 +181,7 @@ class Oracle:
         refused = self._refused
         if refused is None or refused.bound != bound:
             raise Stop(Status.NO_ANSWER, "%s says now this, now that" % solver.name)
-        self._told.refutes(takes_long(refused.attempts, rival))
+        self._told.refutes(takes_long(refused.attempts) and self._team.rival is None)
         if len(refused.attempts) == 1 and is_long(refused.first):
             refused.attempts += self._learner(bound) + self._rival(refused.cnf)
         attempt, lrat = make_lrat(refused.attempts, self._watch, self._workspace)

@@ -5,11 +5,11 @@ from __future__ import annotations
 
 import os
 import shutil
-from typing import Callable, Dict, List, Optional, Sequence, Tuple
+from typing import Callable, Dict, List, Sequence, Tuple
 
 from pbcnf.tools.children import command_of
 from pbcnf.tools.hints import lrat_lines
-from pbcnf.tools.solvers import Attempt, Reasons, Solver, Verdict
+from pbcnf.tools.solvers import Attempt, Reasons, Verdict
 from pbcnf.tools.statuses import Status, Stop
 from pbcnf.tools.watch import Running, Watch
 from pbcnf.tools.workspace import Workspace
@@ -22,10 +22,9 @@ _VERY_LARGE = 2000000
 _READY = (Reasons.LRAT, Reasons.DERIVATION)
 
 
-def takes_long(attempts: Sequence[Attempt], rival: Optional[Solver]) -> bool:
-    """Whether it takes minutes to find hints for the reasons of a solver that has found no model."""
-    alone = rival is None and len(attempts) == 1 and attempts[0].solver.reasons is Reasons.DRAT
-    return alone and _size(attempts[0]) > _VERY_LARGE and not shutil.which("drat-trim")
+def takes_long(attempts: Sequence[Attempt]) -> bool:
+    """Whether it takes minutes to find hints for the reasons of a solver that has found no model, where nobody else says why."""
+    return len(attempts) == 1 and is_long(attempts[0]) and _size(attempts[0]) > _VERY_LARGE
 
 
 def is_long(attempt: Attempt) -> bool:

@@ -2,6 +2,7 @@
 
 from __future__ import annotations
 
+import functools
 import os
 import shlex
 import shutil
@@ -169,14 +170,19 @@ class Attempt(NamedTuple):
     run: Run
 
 
-class Team(NamedTuple):
-    """Who is run."""
+class Team:
+    """Who is run: the solver, and who says why there is no model, the solver itself or another, if any does."""
 
-    solver: Solver
-    prover: Optional[Solver]
-    """Who says why there is no model: the solver itself, or another, if any does."""
-    rival: Optional[Solver]
-    """Who may say it beside the prover, where that takes long to be checked."""
+    def __init__(self, solver: Solver, prover: Optional[Solver], watch: Watch) -> None:
+        self.solver = solver
+        self.prover = prover
+        self._watch = watch
+
+    @functools.cached_property
+    def rival(self) -> Optional[Solver]:
+        """CryptoMiniSat from the path, where the prover's reasons have no hints: it may say why beside the prover. It is looked for
+        when it is needed, which for most problems it is not."""
+        return _find_rival(self._watch) if self.prover is not None and self.prover.reasons is Reasons.DRAT else None
 
 
 def find(named: Optional[str], environment: Mapping[str, str], watch: Watch) -> Solver:
@@ -196,9 +202,7 @@ def find_team(named: Optional[str], environment: Mapping[str, str], watch: Watch
     solver = find(named, environment, watch)
     if not is_proved:
         solver.reasons = None
-        return Team(solver, None, None)
-    prover = solver if solver.reasons else find_prover(named, environment, watch)
-    return Team(solver, prover, find_rival(prover, watch))
+    return Team(solver, (solver if solver.reasons else find_prover(named, environment, watch)) if is_proved else None, watch)
 
 
 def find_prover(named: Optional[str], environment: Mapping[str, str], watch: Watch) -> Optional[Solver]:
@@ -208,11 +212,6 @@ def find_prover(named: Optional[str], environment: Mapping[str, str], watch: Wat
         if command and _kind(command) == PROVER and shutil.which(command[0]):
             return Solver(command, watch)
     return _find_rival(watch)
-
-
-def find_rival(prover: Optional[Solver], watch: Watch) -> Optional[Solver]:
-    """CryptoMiniSat from the path, where the prover's reasons have no hints."""
-    return _find_rival(watch) if prover is not None and prover.reasons is Reasons.DRAT else None
 
 
 def _find_rival(watch: Watch) -> Optional[Solver]:
