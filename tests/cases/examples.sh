@@ -19,15 +19,25 @@ mentions() {
     if grep -Fq -- "$1" "$told"; then passed; else failed "$last: wanted '$1' told, got $(bytes_of "$told")"; fi
 }
 
-# A word behind the OPB file that is no option is refused before anything is done.
+# refuses_words CMD..: that is status 2 and a line on the usage, and before anything is done.
+refuses_words() {
+    local got
+    echo precious >precious.txt
+    last=$(shown "$@")
+    "$@" >"$said" 2>"$told"
+    got=$?
+    if [ $got -eq 2 ] && [ ! -s "$said" ] && grep -q 'usage: pbcnf-' "$told" && grep -qx precious precious.txt; then
+        ended_well
+    else
+        ended_ill "$last: wanted the status 2 and the usage, got $got, $(bytes_of "$told") and $(bytes_of precious.txt)"
+    fi
+}
+
+# A word behind the OPB file that is no option is refused.
 for command in solve minimize; do
     for words in precious.txt '--general tree precious.txt' 'precious.txt --table' '-- precious.txt' -x '--at-most=20 7' \
         '--amo auto --card totalizer precious.txt'; do
-        echo precious >precious.txt
-        expect 2 "$examples/$command" "$opb" $words
-        says
-        mentions 'usage: pbcnf-'
-        holds precious.txt precious
+        refuses_words "$examples/$command" "$opb" $words
     done
     expect 2 "$examples/$command"
     mentions 'the following arguments are required: OPB'
