@@ -27,7 +27,7 @@ same again "$said"
 text refused.opb 'x1 >= 1 ;'
 expect 1 "$core" refused.opb
 tells 'pbcnf: OPB 1:1: expected min:, a statement or the end' \
-    "pbcnf-core: refused.opb: 'x1' stands there: a term without its coefficient; pbcnf-tidy makes '+1 x1' of 'x1'"
+    "pbcnf-core: refused.opb: 'x1' is there: a term without its coefficient; pbcnf-tidy makes '+1 x1' of 'x1'"
 expect 2 "$core"
 expect 2 "$core" "$examples/pigeons.opb" --at-most=3
 expect 0 "$core" --help

@@ -151,7 +151,7 @@ for command in solve minimize; do
     expect 1 "$examples/$command" wrong.opb
     says
     tells 'pbcnf: OPB 1:6: expected a coefficient or ;' \
-        "pbcnf-$command: wrong.opb: 'x1' stands there: a term without its coefficient; pbcnf-tidy makes '+1 x1' of 'x1'"
+        "pbcnf-$command: wrong.opb: 'x1' is there: a term without its coefficient; pbcnf-tidy makes '+1 x1' of 'x1'"
     expect 2 "$examples/$command" "$opb" --general sorter
     says
 done

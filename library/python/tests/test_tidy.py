@@ -357,12 +357,12 @@ class Command(unittest.TestCase):
 class Advice(unittest.TestCase):
     def test_second_lines(self):
         for text, line, words in (
-                (b"x1 + x2 >= 1 ;", "OPB 1:1: expected min:, a statement or the end", "'x1' stands there: a term without its coefficient; pbcnf-tidy makes '+1 x1' of 'x1', and changes 1 other place"),
-                (b"+1 x1 > 0 ;", "OPB 1:7: expected a coefficient or a relation", "'>' stands there: > of integers; pbcnf-tidy makes '>= 1' of '> 0'"),
-                (b"+1 x1 >= 1", "OPB 1:11: expected ;", "the end of the text stands there: no ; at the end of the text, which may be cut off; pbcnf-tidy adds ;"),
-                (b"1.5 x1 >= 1 ;", "OPB 1:1: expected min:, a statement or the end", "'1.5' stands there: a fraction; multiply the statement"),
-                (b"x1 >= 1 ;\n1.5 x1 >= 1 ;", "OPB 1:1: expected min:, a statement or the end", "'x1' stands there: at 2:1 a fraction; multiply the statement"),
-                (b"\xef\xbb\xbf+1 x1 >= 1 ;", "OPB 1:1: expected min:, a statement or the end", "'\\ufeff+1' stands there: a byte order mark; pbcnf-tidy leaves it out"),
+                (b"x1 + x2 >= 1 ;", "OPB 1:1: expected min:, a statement or the end", "'x1' is there: a term without its coefficient; pbcnf-tidy makes '+1 x1' of 'x1', and changes 1 other place"),
+                (b"+1 x1 > 0 ;", "OPB 1:7: expected a coefficient or a relation", "'>' is there: > of integers; pbcnf-tidy makes '>= 1' of '> 0'"),
+                (b"+1 x1 >= 1", "OPB 1:11: expected ;", "the end of the text is there: no ; at the end of the text, which may be cut off; pbcnf-tidy adds ;"),
+                (b"1.5 x1 >= 1 ;", "OPB 1:1: expected min:, a statement or the end", "'1.5' is there: a fraction; multiply the statement"),
+                (b"x1 >= 1 ;\n1.5 x1 >= 1 ;", "OPB 1:1: expected min:, a statement or the end", "'x1' is there: at 2:1 a fraction; multiply the statement"),
+                (b"\xef\xbb\xbf+1 x1 >= 1 ;", "OPB 1:1: expected min:, a statement or the end", "'\\ufeff+1' is there: a byte order mark; pbcnf-tidy leaves it out"),
                 (gzip.compress(b"+1 x1 >= 1 ;"), "OPB 1:1: expected min:, a statement or the end", "packed by gzip: unpacked; pbcnf-tidy does that")):
             self.assertEqual(tidy.advice("a.opb", "pbcnf: " + line, text), "a.opb: " + words)
 

@@ -419,7 +419,7 @@ class Solving(Commands):
         self.assertEqual(self.run_tool("nothing")[:2], (2, []))
 
     def test_refused_texts(self):
-        lines = "pbcnf: OPB 2:1: expected ;\npbcnf-%s: -: the end of the text stands there: no ; at the end of the text, which may be cut off; pbcnf-tidy adds ;\n"
+        lines = "pbcnf: OPB 2:1: expected ;\npbcnf-%s: -: the end of the text is there: no ; at the end of the text, which may be cut off; pbcnf-tidy adds ;\n"
         for command in ("solve", "minimize", "core"):
             self.assertEqual(self.run_tool(command, "-", text="+1 x1 >= 1\n"), (1, [], lines % command))
         status, said, told = self.run_tool("solve", self.path("missing.opb"))

@@ -109,7 +109,7 @@ class ITotalizer:
     def __init__(self, lits: Iterable[int] = (), ubound: int = 1, top_id: Optional[int] = None) -> None:
         self.lits: List[int] = list(lits)
         if len({abs(literal) for literal in self.lits}) < len(self.lits):
-            raise ValueError("each variable stands once among the literals of a totalizer")
+            raise ValueError("each variable occurs once among the literals of a totalizer")
         last = Place(top_id, None).first(self.lits) - 1
         terms = " ".join("+1 %sx%d" % ("~" if literal < 0 else "", abs(literal)) for literal in self.lits)
         text = "* #variable= %d\nmin: %s ;" % (last, terms)

@@ -11,7 +11,7 @@ _WHOLE: Tuple[Tuple[bytes, str], ...] = (
     (rb"\s*<\?xml", "an XML file"),
     (rb"(?is)(\s*\\[^\n]*\n)*\s*(minimi[sz]e|maximi[sz]e|min|max)\b.*?\n\s*(subject to|such that|s\.?t\.?)\s", "an LP file; write it as OPB"),
     (rb"\s*NAME\b", "an MPS file; write it as OPB"),
-    (rb"pseudo-Boolean ", "a derivation, which `encode` writes; the OPB file stands first"),
+    (rb"pseudo-Boolean ", "a derivation, which `encode` writes; the OPB file comes first"),
     (rb"[^\n]*[\x00-\x08\x0e-\x1f]", "bytes that no text has; packed by something else than gzip, bzip2 or xz?"),
 )
 _WORDS: Tuple[Tuple[bytes, str], ...] = (
@@ -25,7 +25,7 @@ _WORDS: Tuple[Tuple[bytes, str], ...] = (
     (rb"!=|<>|\xe2\x89\xa0", "not equal, which no linear relation says"),
     (rb"[()]", "brackets, which no sum has; write the terms out"),
     (rb"/\*", "a comment of C; one begins with * and ends with the line"),
-    (rb";", "a statement lacks its relation, or what stands beside it"),
+    (rb";", "a statement lacks its relation, or what comes with it"),
     (rb"[A-Za-z_][^ \t\r\n;=<>]*:", "a name of a statement in the midst of one; is there a `;` before it?"),
     (rb"[A-Za-z_~]", "a byte that no name has: those are letters of ASCII, digits and _ [ ] { } ^ -"),
     (rb"[\x80-\xff]", "a byte beyond ASCII, which no name has"),

@@ -128,7 +128,7 @@ class _Mender:
     def _rewrite_objective(self, at: int, words: Words, terms: List[Term], turned: bool) -> None:
         """Turns the signs of what is maximised, and has the objective stand first."""
         spelled = b" ".join([b"min:"] + [term.spelled(turned) for term in terms] + [b";"])
-        why = "what is least with its signs turned is greatest; values have the other sign" if turned else "the objective stands first"
+        why = "what is least with its signs turned is greatest; values have the other sign" if turned else "the objective comes first"
         new = _with_comments(spelled, words)
         if self.first < 0:
             self.edits.append(Edit(at, words.end, new))

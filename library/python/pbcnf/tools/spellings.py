@@ -97,7 +97,7 @@ def _multiplies(text: bytes, at: int, behind: str, is_right: bool) -> bool:
             return False
         if factor and not is_right and (behind == NUMBER or b"\n" not in factor.group(1)):
             return True
-    raise Unreadable(at, "a * of a product, or of a comment? a coefficient stands before its *, and a comment on a line of its own")
+    raise Unreadable(at, "a * of a product, or of a comment? a coefficient comes before its *, and a comment on a line of its own")
 
 
 def word_at(text: bytes, at: int) -> Word:

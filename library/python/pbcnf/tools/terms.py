@@ -153,7 +153,7 @@ def _read_literals(words: Words, number: Optional[Word], edits: List[Edit], why:
         if times:
             blank = b" " if before == times.start else b""
             edits.append(Edit(times.start, _behind_blanks(words.text, times.end), blank))
-            why.append("a * between literals" if found else "a * behind the coefficient")
+            why.append("a * between literals" if found else "a * after the coefficient")
             is_glued = False
             is_clear = is_clear or bool(found)
         elif found and not is_clear and words.peek().kind in (spellings.NAME, spellings.NEGATION):
@@ -167,7 +167,7 @@ def _read_literals(words: Words, number: Optional[Word], edits: List[Edit], why:
         first = negation or name
         if is_glued and before == first.start:
             edits.append(Edit(first.start, first.start, b" "))
-            why.append("no blank behind the coefficient" if not found else "no blank between literals")
+            why.append("no blank after the coefficient" if not found else "no blank between literals")
         _judge_exponent(number if not found and is_glued else None, name)
         found.append(_spell(words, negation, name, edits, why))
 
@@ -185,7 +185,7 @@ def _spell(words: Words, negation: Optional[Word], name: Word, edits: List[Edit]
         why.append("another sign of negation than ~")
     elif negation and negation.end != name.start:
         edits.append(Edit(negation.end, name.start, b""))
-        why.append("a blank behind ~")
+        why.append("a blank after ~")
     spelled = name.text
     if re.match(rb"x0+\Z", name.text):
         spelled = words.zero
@@ -203,4 +203,4 @@ def _judge(text: bytes, term: Term, before: Optional[Term]) -> None:
                 raise Unreadable(at, "a name with - in it, or a difference? blanks around the - would tell")
     bare = re.match(rb"[-+](?=[A-Za-z_~])", text[term.start:term.end])
     if bare and before and not before.literals:
-        raise Unreadable(term.start, "a sign behind a coefficient: for a negation write ~")
+        raise Unreadable(term.start, "a sign after a coefficient: for a negation write ~")

@@ -136,7 +136,7 @@ def advice(opb: str, fault_line: str, text: Optional[bytes] = None) -> Optional[
     if unpacked and (text is None or read != text):
         return "%s: %s; pbcnf-tidy does that" % (opb, unpacked[-1].partition(": ")[2])
     there = "'%s'" % shown(token.text, 30) if token else "the end of the text"
-    return "%s: %s stands there: %s" % (opb, there, _remedy(read, at))
+    return "%s: %s is there: %s" % (opb, there, _remedy(read, at))
 
 
 def _remedy(text: bytes, at: int) -> str:

@@ -56,7 +56,7 @@ def _parser() -> argparse.ArgumentParser:
     parser.add_argument("proof", metavar="PROOF", help="their derivation")
     parser.add_argument("lrat", metavar="LRAT", nargs="?", help="a refutation of the clauses; without it the proof has no conclusion")
     parser.add_argument("--clauses", action="store_true", help="state each clause of the CNF in a line of its own, in their order")
-    parser.add_argument("--hints", action="store_true", help="print the hints of rup lines, behind their semicolon")
+    parser.add_argument("--hints", action="store_true", help="print the hints of rup lines, after their semicolon")
     return parser
 
 
