@@ -52,6 +52,14 @@ class Running(Folder):
             self.assertLess(time.monotonic() - began, 300)
             self.assertEqual(watch.run(["true"]), 0)
 
+    def test_ends_in_a_while(self):
+        with Watch() as watch:
+            quick, slow = watch.start(["true"]), watch.start(["sleep", "900"])
+            self.assertTrue(watch.ends_within(quick, 300))
+            self.assertFalse(watch.ends_within(slow, 0.05))
+            self.assertIs(watch.wait([slow, quick]), quick)
+            self.assertEqual(quick.status, 0)
+
     def test_limit_of_all_runs(self):
         with Watch(0.1) as watch:
             with self.assertRaises(Interrupted) as raised:

@@ -22,6 +22,9 @@ from pbcnf.tools.watch import Running, Watch
 from pbcnf.tools.workspace import Workspace, put_whole
 
 Answer = Union[Solution, Verdict]
+# A CNF of no more clauses is encoded at once, and so many seconds a solver has for it alone.
+_FEW = 20000
+_HEAD_START = 0.1
 # The statuses of `decode` where the fault is in the model: its grammar, its values, or that there is none.
 _OF_MODEL = (1, 8, 9)
 
@@ -76,6 +79,8 @@ class Oracle:
         self._workspace = workspace
         self._told = told
         self._count = 0
+        # Those of the last CNF.
+        self._clauses = 0
         self._refused: Optional[Question] = None
         # Whether the search over the constraints is asked too, and the derivation that it wrote.
         self._learns = True
@@ -91,10 +96,14 @@ class Oracle:
 
     def pose_to_all(self, bound: int) -> Question:
         """The same, and others beside it, whose reasons are soon checked where the solver's are not."""
-        # This one needs no CNF, which may be large.
-        learner = self._learner(bound) if self._team.prover is not None else []
-        question = self._pose(self._team.solver, bound, None)
-        question.attempts += learner + (self._rival(question.cnf) if self._team.prover is not None else [])
+        if self._team.prover is None:
+            return self.pose(bound)
+        # The search over the constraints needs no CNF. Where that is small the solver has the answer before others have begun.
+        is_small = self._clauses <= _FEW
+        others = [] if is_small else self._learner(bound)
+        question = self.pose(bound)
+        if not is_small or not self._watch.ends_within(question.first.run.running, _HEAD_START):
+            question.attempts += (others or self._learner(bound)) + self._rival(question.cnf)
         return question
 
     def _learner(self, bound: Optional[int]) -> List[Attempt]:
@@ -113,6 +122,7 @@ class Oracle:
         self._count += 1
         files = self._files(self._workspace.path("cnf.%d" % self._count), "solver")
         size, options = self._encodings.encode(_bound(bound), files.cnf)
+        self._clauses = size.clauses
         self._told.asks(bound, size)
         return Question(bound, effort is not None, options, [Attempt(solver, files, solver.start(files, effort))])
 

@@ -165,6 +165,15 @@ class Watch:
             select.select([self._pipe[0], *outputs], [], [], max(0.0, min(ends)))
             self._drain()
 
+    def ends_within(self, running: Running, seconds: float) -> bool:
+        """Whether a program ends in so short a time, which is waited for."""
+        last = time.monotonic() + seconds
+        while running.child.poll() is None and time.monotonic() < last:
+            self.test()
+            select.select([self._pipe[0]], [], [], max(0.0, last - time.monotonic()))
+            self._drain()
+        return running.child.poll() is not None
+
     def end(self, running: Running) -> None:
         """Ends a program where it still runs."""
         if running in self._running:
