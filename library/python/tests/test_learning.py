@@ -138,7 +138,7 @@ class Learning(unittest.TestCase):
         said = self.run_main(opb, "9")
         self.assertEqual((said[-3:], self.run_main(opb, "0")), (["v 1 -2 0", "o 1", "s OPTIMUM FOUND"], ["s OPTIMUM FOUND"]))
         cnf, proof = self.path("cnf"), self.path("proof")
-        self.assertEqual(self.run_main(opb, "1", cnf, proof), ["s SATISFIABLE", "v 1 -2 0", "o 1"])
+        self.assertEqual(self.run_main(opb, "1", cnf, proof), ["s SATISFIABLE", "v 1 -2 0"])
         self.assertEqual(self.run_main(opb, "0", cnf, proof), ["s UNSATISFIABLE"])
         with open(cnf) as file:
             self.assertEqual(file.read(), "p cnf 2 1\n0\n")

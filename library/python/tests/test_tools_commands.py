@@ -319,6 +319,11 @@ class Minimizing(Commands):
         files = [self.path("kept/" + name) for name in ("best.model", "refuted.cnf", "refuted.proof", "refuted.lrat")]
         run = subprocess.run([os.environ["PBCNF"], "optimum", opb, *files], stdout=subprocess.PIPE, universal_newlines=True, check=True)
         self.assertEqual(run.stdout.splitlines(), ["o 3", *said[-2:]])
+        # An optimizer has said too early that nothing is better.
+        self.make_script("clasp", "echo v 1 -2 3 -4 0; echo o 5; echo s OPTIMUM FOUND")
+        status, said, told = self.run_tool("minimize", "-q", opb, "--jobs=2")
+        self.assertEqual((status, self.values_of(said)[-1], said[-2]), (0, 3, "s OPTIMUM FOUND"))
+        self.make_script("clasp", *BEST)
         # Where the program refuses what it derived, the solver has to.
         self.make_stub("cadical", SLOW.replace("exec sleep 900", "sleep 2"))
         self.make_script("refusing", "[ $1 != optimum ] || ! grep -q ' 1$' \"$4\" || exit 7", 'exec "%s" "$@"' % os.environ["PBCNF"])

@@ -285,9 +285,11 @@ def main(words: List[str]) -> int:
     is_solver = len(words) > 2
     with open(words[3] if is_solver else os.devnull, "w", encoding="ascii") as proof:
         for value, literals in Learner(loaded, int(words[1]), proof).solutions():
-            print("%sv %s 0\no %d" % ("s SATISFIABLE\n" if is_solver else "", " ".join(map(str, literals)), value), flush=True)
+            values = "v %s 0" % " ".join(map(str, literals))
             if is_solver:
+                print("s SATISFIABLE\n" + values)
                 return 0
+            print("%s\no %d" % (values, value), flush=True)
     if is_solver:
         with open(words[2], "w", encoding="ascii") as cnf:
             cnf.write("p cnf %d 1\n0\n" % loaded.variables)
