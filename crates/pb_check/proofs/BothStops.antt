@@ -102,9 +102,9 @@ stops_both_weaker X Y f cnf proof cnf' proof' a b T U h stops = by_fault f stops
       of_one = stops.of_one;
       of_two = stops.of_two;
       fails = stops.fails;
-      told = weaker_told a (λ t. (x : X) → AreOpen (CouldStand cnf.ahead proof.ahead (take stops.of_one (t.left cnf.slot)) (take stops.of_two (t.left proof.slot))) (T x))
+      told = λ k. weaker_told a (λ t. (x : X) → AreOpen (CouldStand cnf.ahead proof.ahead (take stops.of_one (t.left cnf.slot)) (take stops.of_two (t.left proof.slot))) (T x))
           (λ t. (y : Y) → AreOpen (CouldStand cnf.ahead proof.ahead (take stops.of_one (t.left cnf.slot)) (take stops.of_two (t.left proof.slot))) (U y))
-          (λ t is y. let by = h y in open_said (CouldStand cnf.ahead proof.ahead (take stops.of_one (t.left cnf.slot)) (take stops.of_two (t.left proof.slot))) (T by.0) (U y) by.1 (is by.0)) stops.told;
+          (λ t is y. let by = h y in open_said (CouldStand cnf.ahead proof.ahead (take stops.of_one (t.left cnf.slot)) (take stops.of_two (t.left proof.slot))) (T by.0) (U y) by.1 (is by.0)) (stops.told k);
     }
       where
         open_said : (May : List ℕ → List ℕ → Type 0) (T U : List ℕ → List ℕ → Answer → Type 0) → ((t u : List ℕ) (answer : Answer) → T t u answer → U t u answer) → AreOpen May T → AreOpen May U

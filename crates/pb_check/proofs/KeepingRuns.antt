@@ -4,7 +4,7 @@ use Rattle.std.specs.Prelude.{◌≢◌, Result, IfOk, IfSome}
 use Rattle.pb_desk.specs.View.{Told}
 use Rattle.pb_base.specs.declared.literal.Lit.{Lit}
 use Rattle.pb_base.specs.declared.problem.Problem.{Problem}
-use Rattle.pb_desk.specs.Desk.{DeskState, IfTold}
+use Rattle.pb_desk.specs.Desk.{DeskState, IfKept}
 use Rattle.pb_desk.specs.LineReading.{TakesAhead}
 use Rattle.pb_desk.specs.LineReaders.{Reader}
 use Rattle.pb_desk.specs.TwoSlots.{ReadsBoth, TakesBoth}
@@ -103,7 +103,7 @@ start_is : (x y : ℕ) (cnf : CnfReader) (proof : Reader) (head : CnfHead) (cnf'
 start_is x y cnf proof head cnf' text rest new start =
     ap start_of (sym (ap (λ (r : CnfReader). rows_left r.lines text) new.cnf_new ∙ start_rows x text)) ∙ start
 
-pub vars_told : (p : Problem) (x y : ℕ) (cnf cnf' : CnfReader) (proof : Reader) (head : CnfHead) (a b : DeskState) → AreNew x y cnf proof → x ≢ y → cnf'.lines.slot ≡ cnf.lines.slot → GivesHead head cnf cnf' a b → IfTold a (λ t. HasVars (t.left x) head.vars)
+pub vars_told : (p : Problem) (x y : ℕ) (cnf cnf' : CnfReader) (proof : Reader) (head : CnfHead) (a b : DeskState) → AreNew x y cnf proof → x ≢ y → cnf'.lines.slot ≡ cnf.lines.slot → GivesHead head cnf cnf' a b → IfKept a b (λ t. HasVars (t.left x) head.vars)
 vars_told p x y cnf cnf' proof head a b new apart slot given =
     let takes : TakesBoth x y (λ c d. HasVars c head.vars) a b =
     takes_new p x y cnf cnf' proof proof a b (Started head cnf cnf') (λ c d. HasVars c head.vars) new
@@ -123,7 +123,7 @@ all_said head cnf' k k' text rest vars left wanted none start tells =
     }
 
 pub clauses_told : (p : Problem) (x y : ℕ) (cnf cnf' cnf'' : CnfReader) (proof proof' : Reader) (head : CnfHead) (k k' : CollectedClauses) (a b d : DeskState) → AreNew x y cnf proof → x ≢ y → cnf'.lines.slot ≡ cnf.lines.slot → cnf'.vars ≡ head.vars → cnf'.left ≡ head.clauses
-    → k.wanted ≡ true → k.clauses ≡ [] → GivesHead head cnf cnf' a b → KeepsLines Accepted k cnf' proof k' cnf'' proof' b d → IfTold a (λ t. SaysClauses (t.left x) head.vars k'.clauses)
+    → k.wanted ≡ true → k.clauses ≡ [] → GivesHead head cnf cnf' a b → KeepsLines Accepted k cnf' proof k' cnf'' proof' b d → IfKept a d (λ t. SaysClauses (t.left x) head.vars k'.clauses)
 clauses_told p x y cnf cnf' cnf'' proof proof' head k k' a b d new apart slot vars left wanted none given keeps =
     let takes : TakesBoth x y (λ c q. SaysClauses c head.vars k'.clauses) a d =
     takes_new p x y cnf cnf'' proof proof' a d (λ c q c' q'. SaysClauses c head.vars k'.clauses) (λ c q. SaysClauses c head.vars k'.clauses) new (λ c q c' q' h. h)
@@ -134,11 +134,11 @@ clauses_told p x y cnf cnf' cnf'' proof proof' head k k' a b d new apart slot va
 
 -- ---- by the verdict
 
-pub kept_all : (a : DeskState) (x : ℕ) (v : Verdict) (vars : ℕ) (clauses : List (List Lit)) → v ≡ Accepted → IfTold a (λ t. SaysClauses (t.left x) vars clauses) → IfTold a (λ t. IsKept v (t.left x) vars clauses)
-kept_all a x v vars clauses is holds = subst (λ (w : Verdict). IfTold a (λ t. IsKept w (t.left x) vars clauses)) (sym is) holds
+pub kept_all : (a b : DeskState) (x : ℕ) (v : Verdict) (vars : ℕ) (clauses : List (List Lit)) → v ≡ Accepted → IfKept a b (λ t. SaysClauses (t.left x) vars clauses) → IfKept a b (λ t. IsKept v (t.left x) vars clauses)
+kept_all a b x v vars clauses is holds = subst (λ (w : Verdict). IfKept a b (λ t. IsKept w (t.left x) vars clauses)) (sym is) holds
 
-pub kept_none : (a : DeskState) (x : ℕ) (v : Verdict) (vars : ℕ) (clauses : List (List Lit)) (line : ℕ) (denied : Denied) → v ≡ Rejected line denied → clauses ≡ [] → IfTold a (λ t. HasVars (t.left x) vars) → IfTold a (λ t. IsKept v (t.left x) vars clauses)
-kept_none a x v vars clauses line denied is none has = subst (λ (w : Verdict). IfTold a (λ t. IsKept w (t.left x) vars clauses)) (sym is) (by_cases a.view.told has)
+pub kept_none : (a b : DeskState) (x : ℕ) (v : Verdict) (vars : ℕ) (clauses : List (List Lit)) (line : ℕ) (denied : Denied) → v ≡ Rejected line denied → clauses ≡ [] → IfKept a b (λ t. HasVars (t.left x) vars) → IfKept a b (λ t. IsKept v (t.left x) vars clauses)
+kept_none a b x v vars clauses line denied is none has = subst (λ (w : Verdict). IfKept a b (λ t. IsKept w (t.left x) vars clauses)) (sym is) (λ k. by_cases a.view.told (has k))
   where
     by_cases : (told : Option Told) → IfSome told (λ t. HasVars (t.left x) vars) → IfSome told (λ t. IsKept (Rejected line denied) (t.left x) vars clauses)
     by_cases None has = tt

@@ -1,7 +1,7 @@
 //! Checking a derivation.
 ghost use Rattle.std.specs.Prelude.{◌≡◌, ◌≢◌, ◌<◌, ◌^◌, [], length, true, false, IsTrue, Ok, Err, None, IfOk, IfErr, All};
 ghost use Rattle.pb_base.specs.Problems.{IsWithinLimits};
-ghost use Rattle.pb_desk.specs.Desk.{IfTold, IsSteady};
+ghost use Rattle.pb_desk.specs.Desk.{IfKept, IsSteady};
 ghost use Rattle.pb_desk.specs.TwoSlots.{KnowsBoth, TakesBoth};
 ghost use Rattle.pb_norm.specs.Constraints.{AreVarsWithin};
 ghost use Rattle.pb_norm.specs.Products.{loaded_of};
@@ -120,8 +120,8 @@ fn check_texts<D: Desk>(
     requires knows { KnowsBoth session.old.cnf.lines session.old.lines (D.state desk.old) }
     ensures verdict { IfOk result (λ r. TakesBoth session.old.cnf.lines.slot session.old.lines.slot (λ c d. Walk problem.now c d (Ok r.0)) (D.state desk.old) (D.state desk.new)) }
     ensures few_vars { IfOk result (λ r. r.1 < 2 ^ 31) }
-    ensures vars { IfOk result (λ r. IfTold (D.state desk.old) (λ t. HasVars (t.left session.old.cnf.lines.slot) r.1)) }
-    ensures clauses { session.old.kept.wanted ≡ true → IfOk result (λ r. SaysKept r.0 session.old.cnf.lines.slot r.1 session.new.kept.clauses (D.state desk.old)) }
+    ensures vars { IfOk result (λ r. IfKept (D.state desk.old) (D.state desk.new) (λ t. HasVars (t.left session.old.cnf.lines.slot) r.1)) }
+    ensures clauses { session.old.kept.wanted ≡ true → IfOk result (λ r. SaysKept r.0 session.old.cnf.lines.slot r.1 session.new.kept.clauses (D.state desk.old) (D.state desk.new)) }
     ensures stopped { IfErr result (StopsCheck problem.now session.old.cnf.lines.slot session.old.lines.slot (D.state desk.old) (D.state desk.new)) }
     ensures named { IfErr result NamesText }
     ensures steady { IsSteady (D.state desk.old) → result ≢ Err CheckFault.ReadFault }
@@ -166,8 +166,8 @@ fn check_by<D: Desk>(
     requires nothing { kept.clauses ≡ [] }
     ensures verdict { IfOk result (λ r. TakesBoth cnf proof (λ c d. Walk problem.now c d (Ok r.0)) (D.state desk.old) (D.state desk.new)) }
     ensures few_vars { IfOk result (λ r. r.1 < 2 ^ 31) }
-    ensures vars { IfOk result (λ r. IfTold (D.state desk.old) (λ t. HasVars (t.left cnf) r.1)) }
-    ensures clauses { kept.wanted ≡ true → IfOk result (λ r. SaysKept r.0 cnf r.1 r.2 (D.state desk.old)) }
+    ensures vars { IfOk result (λ r. IfKept (D.state desk.old) (D.state desk.new) (λ t. HasVars (t.left cnf) r.1)) }
+    ensures clauses { kept.wanted ≡ true → IfOk result (λ r. SaysKept r.0 cnf r.1 r.2 (D.state desk.old) (D.state desk.new)) }
     ensures stopped { IfErr result (StopsCheck problem.now cnf proof (D.state desk.old) (D.state desk.new)) }
     ensures named { IfErr result NamesText }
     ensures steady { IsSteady (D.state desk.old) → result ≢ Err CheckFault.ReadFault }
@@ -249,7 +249,7 @@ pub fn check_kept<D: Desk>(
     ensures few_vars { IfOk result (λ r. r.1 < 2 ^ 31) }
     // On a visible desk, if the derivation is accepted, the clauses are exactly those of the CNF text, in order, with the number of
     // variables of its p line; if it is rejected there are none.
-    ensures kept { IfOk result (λ r. IfTold (D.state desk.old) (λ t. IsKept r.0 (t.left cnf) r.1 r.2)) }
+    ensures kept { IfOk result (λ r. IfKept (D.state desk.old) (D.state desk.new) (λ t. IsKept r.0 (t.left cnf) r.1 r.2)) }
     // On a visible desk a fault with a place is the answer for the two texts. A failed read is answered only if the count of failed reads
     // rose and what was read leaves the answer open.
     ensures stopped { IfErr result (StopsCheck problem.now cnf proof (D.state desk.old) (D.state desk.new)) }

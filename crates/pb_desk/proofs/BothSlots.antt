@@ -8,7 +8,7 @@ use Rattle.std.specs.Option.{option_map}
 use Rattle.std.specs.declared.option.Option.{Option}
 use Rattle.std.specs.declared.option.Option.TheVariants.{Some, None}
 use Rattle.pb_desk.specs.View.{Told, View, put, taken}
-use Rattle.pb_desk.specs.Desk.{DeskState, Reads, FailsToRead, IfTold, same}
+use Rattle.pb_desk.specs.Desk.{DeskState, Reads, FailsToRead, IfKept, IfTold, same}
 use Rattle.pb_desk.specs.LineReading.{TakesAhead, FailsAhead, Knows, MayStand, before_end, beyond, nothing_held, Held}
 use Rattle.pb_desk.specs.LineReaders.{Reader}
 use Rattle.pb_desk.proofs.Steps.{as_reads, begin, reads_by_then, then_fails_to_read}
@@ -94,7 +94,7 @@ both_begin one two a P apart h = record {
   of_two = 0;
   reached = as_reads (both_taken one.slot two.slot 0 0) a a (begin (both_taken one.slot two.slot 0 0) a (λ v. ap (taken two.slot 0) (taken-none one.slot v) ∙ taken-none two.slot v));
   knows = λ k. k;
-  told = always_told a (λ t. BothTell one two one two 0 0 P (t.left one.slot) (t.left two.slot)) (λ t rest other may may'. h (before_end one.ahead rest) (before_end two.ahead other));
+  told = λ k. always_told a (λ t. BothTell one two one two 0 0 P (t.left one.slot) (t.left two.slot)) (λ t rest other may may'. h (before_end one.ahead rest) (before_end two.ahead other));
 }
 
 -- only the one reader went on
@@ -110,8 +110,8 @@ both_of_one one one' two a b P Q apart slot gives reads = record {
   of_two = 0;
   reached = reads_by_then (taken one.slot reads.count) same (both_taken one.slot two.slot reads.count 0) a b b (λ v. sym (taken-none two.slot (taken one.slot reads.count v))) reads.takes.reached (as_reads same b b (begin same b (λ v. refl)));
   knows = λ k. (subst (λ (s : ℕ). Knows s one'.ahead b) (sym slot) (knows_after one.slot one.ahead one'.ahead a b P reads), knows_beside one.slot two.slot one.ahead one'.ahead two.ahead a b P (λ e. apart (sym e)) reads k.1);
-  told = weaker_told a (Tells one.slot reads.count one.ahead one'.ahead P) (λ t. BothTell one two one' two reads.count 0 Q (t.left one.slot) (t.left two.slot))
-      (λ t p rest other may may'. gives (before_end one.ahead (take reads.count (t.left one.slot) ++ rest)) (before_end two.ahead other) (before_end one'.ahead rest) (p rest may)) reads.told;
+  told = λ k. weaker_told a (Tells one.slot reads.count one.ahead one'.ahead P) (λ t. BothTell one two one' two reads.count 0 Q (t.left one.slot) (t.left two.slot))
+      (λ t p rest other may may'. gives (before_end one.ahead (take reads.count (t.left one.slot) ++ rest)) (before_end two.ahead other) (before_end one'.ahead rest) (p rest may)) (reads.told k);
 }
 
 -- only the other reader went on
@@ -127,8 +127,8 @@ both_of_two one two two' a b P Q apart slot gives reads = record {
   of_two = reads.count;
   reached = reads_by_then (taken two.slot reads.count) same (both_taken one.slot two.slot 0 reads.count) a b b (λ v. ap (taken two.slot reads.count) (sym (taken-none one.slot v))) reads.takes.reached (as_reads same b b (begin same b (λ v. refl)));
   knows = λ k. (knows_beside two.slot one.slot two.ahead two'.ahead one.ahead a b P apart reads k.0, subst (λ (s : ℕ). Knows s two'.ahead b) (sym slot) (knows_after two.slot two.ahead two'.ahead a b P reads));
-  told = weaker_told a (Tells two.slot reads.count two.ahead two'.ahead P) (λ t. BothTell one two one two' 0 reads.count Q (t.left one.slot) (t.left two.slot))
-      (λ t p rest other may may'. gives (before_end one.ahead rest) (before_end two.ahead (take reads.count (t.left two.slot) ++ other)) (before_end two'.ahead other) (p other may')) reads.told;
+  told = λ k. weaker_told a (Tells two.slot reads.count two.ahead two'.ahead P) (λ t. BothTell one two one two' 0 reads.count Q (t.left one.slot) (t.left two.slot))
+      (λ t p rest other may may'. gives (before_end one.ahead rest) (before_end two.ahead (take reads.count (t.left two.slot) ++ other)) (before_end two'.ahead other) (p other may')) (reads.told k);
 }
 
 pub both_weaker : (one two one' two' : Reader) (a b : DeskState) (P Q : List ℕ → List ℕ → List ℕ → List ℕ → Type 0) → ((c p c' p' : List ℕ) → P c p c' p' → Q c p c' p') → ReadsBoth one two one' two' a b P → ReadsBoth one two one' two' a b Q
@@ -142,8 +142,8 @@ both_weaker one two one' two' a b P Q h reads = record {
   of_two = reads.of_two;
   reached = reads.reached;
   knows = reads.knows;
-  told = weaker_told a (λ t. BothTell one two one' two' reads.of_one reads.of_two P (t.left one.slot) (t.left two.slot)) (λ t. BothTell one two one' two' reads.of_one reads.of_two Q (t.left one.slot) (t.left two.slot))
-      (λ t p rest other may may'. h (before_end one.ahead (take reads.of_one (t.left one.slot) ++ rest)) (before_end two.ahead (take reads.of_two (t.left two.slot) ++ other)) (before_end one'.ahead rest) (before_end two'.ahead other) (p rest other may may')) reads.told;
+  told = λ k. weaker_told a (λ t. BothTell one two one' two' reads.of_one reads.of_two P (t.left one.slot) (t.left two.slot)) (λ t. BothTell one two one' two' reads.of_one reads.of_two Q (t.left one.slot) (t.left two.slot))
+      (λ t p rest other may may'. h (before_end one.ahead (take reads.of_one (t.left one.slot) ++ rest)) (before_end two.ahead (take reads.of_two (t.left two.slot) ++ other)) (before_end one'.ahead rest) (before_end two'.ahead other) (p rest other may may')) (reads.told k);
 }
 
 -- what stands behind bytes that are taken later may stand there
@@ -162,10 +162,10 @@ both_then one two one' two' one'' two'' a b c P Q R gives first second =
     let n' = second.of_one in
     let m' = second.of_two in
     let reached : Reads (both_taken x y n' m') b c = subst (λ (s : ℕ). Reads (both_taken s y n' m') b c) first.one_slot (subst (λ (s : ℕ). Reads (both_taken one'.slot s n' m') b c) first.two_slot second.reached) in
-    let told : IfTold b (λ t. BothTell one' two' one'' two'' n' m' Q (t.left x) (t.left y)) =
-    subst (λ (s : ℕ). IfTold b (λ t. BothTell one' two' one'' two'' n' m' Q (t.left s) (t.left y))) first.one_slot
-    (subst (λ (s : ℕ). IfTold b (λ t. BothTell one' two' one'' two'' n' m' Q (t.left one'.slot) (t.left s))) first.two_slot second.told) in
-    let later = both_after x y n m (BothTell one' two' one'' two'' n' m' Q) a b first.apart first.reached.view told in
+    let told : IfKept b c (λ t. BothTell one' two' one'' two'' n' m' Q (t.left x) (t.left y)) =
+    subst (λ (s : ℕ). IfKept b c (λ t. BothTell one' two' one'' two'' n' m' Q (t.left s) (t.left y))) first.one_slot
+    (subst (λ (s : ℕ). IfKept b c (λ t. BothTell one' two' one'' two'' n' m' Q (t.left one'.slot) (t.left s))) first.two_slot second.told) in
+    let later : IfKept a c (λ t. BothTell one' two' one'' two'' n' m' Q (drop n (t.left x)) (drop m (t.left y))) = λ k. both_after x y n m (BothTell one' two' one'' two'' n' m' Q) a b first.apart first.reached.view (told k) in
     record {
       apart = first.apart;
       one_slot = second.one_slot ∙ first.one_slot;
@@ -176,7 +176,7 @@ both_then one two one' two' one'' two'' a b c P Q R gives first second =
       of_two = m + m';
       reached = reads_by_then (both_taken x y n m) (both_taken x y n' m') (both_taken x y (n + n') (m + m')) a b c (λ v. both-both x y n m n' m' v first.apart) first.reached reached;
       knows = λ k. second.knows (first.knows k);
-      told = both_told (λ t. BothTell one two one' two' n m P (t.left x) (t.left y)) (λ t. BothTell one' two' one'' two'' n' m' Q (drop n (t.left x)) (drop m (t.left y))) (λ t. BothTell one two one'' two'' (n + n') (m + m') R (t.left x) (t.left y)) a
+      told = λ k. both_told (λ t. BothTell one two one' two' n m P (t.left x) (t.left y)) (λ t. BothTell one' two' one'' two'' n' m' Q (drop n (t.left x)) (drop m (t.left y))) (λ t. BothTell one two one'' two'' (n + n') (m + m') R (t.left x) (t.left y)) a
           (λ t p q rest other may may'.
           let left : List ℕ = t.left x in
           let right : List ℕ = t.left y in
@@ -187,7 +187,7 @@ both_then one two one' two' one'' two'' a b c P Q R gives first second =
           (gives (before_end one.ahead (take n left ++ middle)) (before_end two.ahead (take m right ++ amid)) (before_end one'.ahead middle) (before_end two'.ahead amid) (before_end one''.ahead rest) (before_end two''.ahead other)
           (p middle amid (stands_later one'.ahead one''.ahead n n' left rest second.over_one may) (stands_later two'.ahead two''.ahead m m' right other second.over_two may'))
           (q rest other (λ e. may e ∙ sym (drop-drop n' n left)) (λ e. may' e ∙ sym (drop-drop m' m right))))))
-          first.told later;
+          (first.told (reached.kept k)) (later k);
     }
 
 -- ---- a read that fails
@@ -221,17 +221,17 @@ misses_later one two one' two' a b c P Q R back first second =
     let n' = second.of_one in
     let m' = second.of_two in
     let Later = λ (left right : List ℕ). Q (CouldStand one'.ahead two'.ahead (take n' left) (take m' right)) in
-    let told : IfTold b (λ t. Later (t.left x) (t.left y)) =
-    subst (λ (s : ℕ). IfTold b (λ t. Later (t.left s) (t.left y))) first.one_slot (subst (λ (s : ℕ). IfTold b (λ t. Later (t.left one'.slot) (t.left s))) first.two_slot second.told) in
-    let later = both_after x y n m Later a b first.apart first.reached.view told in
+    let told : IfKept b c (λ t. Later (t.left x) (t.left y)) =
+    subst (λ (s : ℕ). IfKept b c (λ t. Later (t.left s) (t.left y))) first.one_slot (subst (λ (s : ℕ). IfKept b c (λ t. Later (t.left one'.slot) (t.left s))) first.two_slot second.told) in
+    let later : IfKept a c (λ t. Later (drop n (t.left x)) (drop m (t.left y))) = λ k. both_after x y n m Later a b first.apart first.reached.view (told k) in
     record {
       of_one = n + n';
       of_two = m + m';
       fails = then_fails_to_read (both_taken x y n m) (both_taken x y n' m') (both_taken x y (n + n') (m + m')) a b c (λ v. both-both x y n m n' m' v first.apart) first.reached
           (subst (λ (s : ℕ). FailsToRead (both_taken s y n' m') b c) first.one_slot (subst (λ (s : ℕ). FailsToRead (both_taken one'.slot s n' m') b c) first.two_slot second.fails));
-      told = both_told (λ t. BothTell one two one' two' n m P (t.left x) (t.left y)) (λ t. Later (drop n (t.left x)) (drop m (t.left y))) (λ t. R (CouldStand one.ahead two.ahead (take (n + n') (t.left x)) (take (m + m') (t.left y)))) a
+      told = λ k. both_told (λ t. BothTell one two one' two' n m P (t.left x) (t.left y)) (λ t. Later (drop n (t.left x)) (drop m (t.left y))) (λ t. R (CouldStand one.ahead two.ahead (take (n + n') (t.left x)) (take (m + m') (t.left y)))) a
           (λ t p q. back (CouldStand one.ahead two.ahead (take (n + n') (t.left x)) (take (m + m') (t.left y))) (CouldStand one'.ahead two'.ahead (take n' (drop n (t.left x))) (take m' (drop m (t.left y))))
-          (λ c' p' could. came n m n' m' (t.left x) (t.left y) p c' p' could) q) first.told later;
+          (λ c' p' could. came n m n' m' (t.left x) (t.left y) p c' p' could) q) (first.told (second.fails.kept k)) (later k);
     }
   where
     came : (n m n' m' : ℕ) (left right : List ℕ) → BothTell one two one' two' n m P left right → (c' p' : List ℕ) → CouldStand one'.ahead two'.ahead (take n' (drop n left)) (take m' (drop m right)) c' p'
@@ -255,6 +255,7 @@ then_same f g a b is fails = record {
   tells = fails.tells;
   reads = fails.reads;
   writes = fails.writes;
+  kept = fails.kept;
 }
 
 -- bytes that were ahead, and taken, of a slot whose end was not met
@@ -268,9 +269,9 @@ misses_one one two a b P Q gives h = record {
   of_one = h.count;
   of_two = 0;
   fails = then_same (taken one.slot h.count) (both_taken one.slot two.slot h.count 0) a b (λ v. taken-none two.slot (taken one.slot h.count v)) h.fails;
-  told = weaker_told a (λ t. (h.count ≤ length (t.left one.slot)) × P (one.ahead.bytes ++ take h.count (t.left one.slot))) (λ t. Q (CouldStand one.ahead two.ahead (take h.count (t.left one.slot)) (take 0 (t.left two.slot))))
+  told = λ k. weaker_told a (λ t. (h.count ≤ length (t.left one.slot)) × P (one.ahead.bytes ++ take h.count (t.left one.slot))) (λ t. Q (CouldStand one.ahead two.ahead (take h.count (t.left one.slot)) (take 0 (t.left two.slot))))
       (λ t p. gives (CouldStand one.ahead two.ahead (take h.count (t.left one.slot)) (take 0 (t.left two.slot))) (one.ahead.bytes ++ take h.count (t.left one.slot)) (before_end two.ahead [])
-      (λ behind. record { behind_one = behind; behind_two = []; at_one = opens one.ahead (take h.count (t.left one.slot)) behind h.not_over; at_two = refl }) p.1) h.told;
+      (λ behind. record { behind_one = behind; behind_two = []; at_one = opens one.ahead (take h.count (t.left one.slot)) behind h.not_over; at_two = refl }) p.1) (h.told k);
 }
 
 -- the other one
@@ -280,9 +281,9 @@ misses_two one two a b P Q gives h = record {
   of_one = 0;
   of_two = h.count;
   fails = then_same (taken two.slot h.count) (both_taken one.slot two.slot 0 h.count) a b (λ v. ap (taken two.slot h.count) (taken-none one.slot v)) h.fails;
-  told = weaker_told a (λ t. (h.count ≤ length (t.left two.slot)) × P (two.ahead.bytes ++ take h.count (t.left two.slot))) (λ t. Q (CouldStand one.ahead two.ahead (take 0 (t.left one.slot)) (take h.count (t.left two.slot))))
+  told = λ k. weaker_told a (λ t. (h.count ≤ length (t.left two.slot)) × P (two.ahead.bytes ++ take h.count (t.left two.slot))) (λ t. Q (CouldStand one.ahead two.ahead (take 0 (t.left one.slot)) (take h.count (t.left two.slot))))
       (λ t p. gives (CouldStand one.ahead two.ahead (take 0 (t.left one.slot)) (take h.count (t.left two.slot))) (before_end one.ahead []) (two.ahead.bytes ++ take h.count (t.left two.slot))
-      (λ behind. record { behind_one = []; behind_two = behind; at_one = refl; at_two = opens two.ahead (take h.count (t.left two.slot)) behind h.not_over }) p.1) h.told;
+      (λ behind. record { behind_one = []; behind_two = behind; at_one = refl; at_two = opens two.ahead (take h.count (t.left two.slot)) behind h.not_over }) p.1) (h.told k);
 }
 
 -- from the first byte of both texts on
@@ -294,7 +295,7 @@ misses_new one two x y a b P Q at_x at_y none_x none_y gives wider h = record {
   of_one = h.of_one;
   of_two = h.of_two;
   fails = subst (λ (s : ℕ). FailsToRead (both_taken s y h.of_one h.of_two) a b) at_x (subst (λ (s : ℕ). FailsToRead (both_taken one.slot s h.of_one h.of_two) a b) at_y h.fails);
-  told = weaker_told a (λ t. P (CouldStand one.ahead two.ahead (take h.of_one (t.left one.slot)) (take h.of_two (t.left two.slot)))) (λ t. Q (take h.of_one (t.left x)) (take h.of_two (t.left y)))
+  told = λ k. weaker_told a (λ t. P (CouldStand one.ahead two.ahead (take h.of_one (t.left one.slot)) (take h.of_two (t.left two.slot)))) (λ t. Q (take h.of_one (t.left x)) (take h.of_two (t.left y)))
       (λ t p.
       subst (λ (s : ℕ). Q (take h.of_one (t.left s)) (take h.of_two (t.left y))) at_x
       (subst (λ (s : ℕ). Q (take h.of_one (t.left one.slot)) (take h.of_two (t.left s))) at_y
@@ -305,7 +306,7 @@ misses_new one two x y a b P Q at_x at_y none_x none_y gives wider h = record {
         could.behind_two,
         could.at_one ∙ ap (λ (held : Held). before_end held (take h.of_one (t.left one.slot) ++ could.behind_one)) none_x,
         could.at_two ∙ ap (λ (held : Held). before_end held (take h.of_two (t.left two.slot) ++ could.behind_two)) none_y,
-      )) p)))) h.told;
+      )) p)))) (h.told k);
 }
 
 -- from the first byte of both texts on
@@ -315,7 +316,7 @@ takes_both one two one' two' x y a b P Q at_x at_y none_x none_y gives reads = r
   of_one = reads.of_one;
   of_two = reads.of_two;
   reached = subst (λ (s : ℕ). Reads (both_taken s y reads.of_one reads.of_two) a b) at_x (subst (λ (s : ℕ). Reads (both_taken one.slot s reads.of_one reads.of_two) a b) at_y reads.reached);
-  texts = weaker_told a (λ t. BothTell one two one' two' reads.of_one reads.of_two P (t.left one.slot) (t.left two.slot)) (λ t. Q (t.left x) (t.left y))
+  texts = λ k. weaker_told a (λ t. BothTell one two one' two' reads.of_one reads.of_two P (t.left one.slot) (t.left two.slot)) (λ t. Q (t.left x) (t.left y))
       (λ t p.
       let rest : List ℕ = drop reads.of_one (t.left one.slot) in
       let other : List ℕ = drop reads.of_two (t.left two.slot) in
@@ -324,7 +325,7 @@ takes_both one two one' two' x y a b P Q at_x at_y none_x none_y gives reads = r
       let at_one : before_end one.ahead (take reads.of_one (t.left one.slot) ++ rest) ≡ t.left x = ap (λ (held : Held). before_end held (take reads.of_one (t.left one.slot) ++ rest)) none_x ∙ (take-append-drop reads.of_one (t.left one.slot) ∙ ap t.left at_x) in
       let at_two : before_end two.ahead (take reads.of_two (t.left two.slot) ++ other) ≡ t.left y = ap (λ (held : Held). before_end held (take reads.of_two (t.left two.slot) ++ other)) none_y ∙ (take-append-drop reads.of_two (t.left two.slot) ∙ ap t.left at_y) in
       subst (λ (xs : List ℕ). Q xs (t.left y)) at_one (subst (λ (ys : List ℕ). Q (before_end one.ahead (take reads.of_one (t.left one.slot) ++ rest)) ys) at_two whole))
-      reads.told;
+      (reads.told k);
 }
 
 -- nothing was taken
@@ -333,5 +334,5 @@ takes_none x y a = record {
   of_one = 0;
   of_two = 0;
   reached = as_reads (both_taken x y 0 0) a a (begin (both_taken x y 0 0) a (λ v. ap (taken y 0) (taken-none x v) ∙ taken-none y v));
-  texts = always_told a (λ t. Unit {0}) (λ t. tt);
+  texts = λ k. always_told a (λ t. Unit {0}) (λ t. tt);
 }

@@ -9,7 +9,7 @@ use Rattle.std.specs.declared.option.Option.TheVariants.{Some, None}
 use Rattle.std.proofs.lemmas.List.{drop-drop, append-nil, length-drop, take-append-drop}
 use Rattle.std.proofs.Math.Seq.{take-add}
 use Rattle.pb_desk.specs.View.{Told, View, put, taken}
-use Rattle.pb_desk.specs.Desk.{DeskState, Advances, FailsToRead, IfTold, same}
+use Rattle.pb_desk.specs.Desk.{DeskState, Advances, FailsToRead, IfKept, IfTold, same}
 use Rattle.pb_desk.proofs.Steps.{as_reads, begin, reads_by_then, then_fails_to_read}
 use Rattle.pb_desk.proofs.Readings.{put-same, put-put, taken-taken, told_after, both_told}
 use Rattle.pb_desk.proofs.Slots.{put_there}
@@ -45,10 +45,10 @@ Tells slot count x y P t = (rest : List ℕ) → MayStand y (drop count (t.left 
 reads_nothing : (slot : ℕ) (ahead : Held) (a : DeskState) (P : List ℕ → List ℕ → Type 0) → Knows slot ahead a → ((left : List ℕ) → P (before_end ahead left) (before_end ahead left)) → TakesAhead slot ahead ahead a a P
 reads_nothing slot ahead a P knows h = record {
   count = 0;
-  takes = record { reached = as_reads (taken slot 0) a a (begin (taken slot 0) a (taken-none slot)); were_left = always_told a (λ t. 0 ≤ length (t.left slot)) (λ t. omega arith) };
+  takes = record { reached = as_reads (taken slot 0) a a (begin (taken slot 0) a (taken-none slot)); were_left = λ k. always_told a (λ t. 0 ≤ length (t.left slot)) (λ t. omega arith) };
   over = λ e. e;
   ended = sym (put_there a.ended slot ahead.over knows);
-  told = always_told a (Tells slot 0 ahead ahead P) (λ t rest may. h rest);
+  told = λ k. always_told a (Tells slot 0 ahead ahead P) (λ t rest may. h rest);
 }
 
 -- nothing was read yet
@@ -58,8 +58,8 @@ reads_begin slot ahead a P knows h = reads_nothing slot ahead a P knows (λ left
 takes_takes : (slot n m : ℕ) (a b c : DeskState) → Advances slot n a b → Advances slot m b c → Advances slot (n + m) a c
 takes_takes slot n m a b c first second = record {
   reached = reads_by_then (taken slot n) (taken slot m) (taken slot (n + m)) a b c (taken-taken slot n m) first.reached second.reached;
-  were_left = both_told (λ t. n ≤ length (t.left slot)) (λ t. m ≤ length (drop n (t.left slot))) (λ t. n + m ≤ length (t.left slot)) a
-      (λ t le more. omega (arith, le, more, length-drop n (t.left slot))) first.were_left (told_after slot n (λ left. m ≤ length left) a b first.reached.view second.were_left);
+  were_left = λ k. both_told (λ t. n ≤ length (t.left slot)) (λ t. m ≤ length (drop n (t.left slot))) (λ t. n + m ≤ length (t.left slot)) a
+      (λ t le more. omega (arith, le, more, length-drop n (t.left slot))) (first.were_left (second.reached.kept k)) (told_after slot n (λ left. m ≤ length left) a b first.reached.view (second.were_left k));
 }
 
 -- bytes that are taken in two reads are those of one
@@ -69,14 +69,14 @@ take_twice n m left behind = sym (append_assoc (take n left) (take m (drop n lef
 -- one read after another
 pub reads_then : (slot : ℕ) (x y z : Held) (a b c : DeskState) (P Q R : List ℕ → List ℕ → Type 0) → ((text middle rest : List ℕ) → P text middle → Q middle rest → R text rest) → TakesAhead slot x y a b P → TakesAhead slot y z b c Q → TakesAhead slot x z a c R
 reads_then slot x y z a b c P Q R joins first second =
-    let later : IfTold a (λ t. Later second.count (drop first.count (t.left slot))) = told_after slot first.count (Later second.count) a b first.takes.reached.view second.told in
+    let later : IfKept a c (λ t. Later second.count (drop first.count (t.left slot))) = λ k. told_after slot first.count (Later second.count) a b first.takes.reached.view (second.told k) in
     record {
       count = first.count + second.count;
       takes = takes_takes slot first.count second.count a b c first.takes second.takes;
       over = λ e. second.over (first.over e);
       ended = second.ended ∙ (ap (λ (f : ℕ → Bool). put f slot z.over) first.ended ∙ put-put a.ended slot y.over z.over);
-      told = both_told (Tells slot first.count x y P) (λ t. Later second.count (drop first.count (t.left slot))) (Tells slot (first.count + second.count) x z R) a
-          (λ t p q rest may. join first.count second.count (t.left slot) rest may p q) first.told later;
+      told = λ k. both_told (Tells slot first.count x y P) (λ t. Later second.count (drop first.count (t.left slot))) (Tells slot (first.count + second.count) x z R) a
+          (λ t p q rest may. join first.count second.count (t.left slot) rest may p q) (first.told (second.takes.reached.kept k)) (later k);
     }
   where
     Later : ℕ → List ℕ → Type 0
@@ -98,9 +98,9 @@ reads_ahead slot x y z a b P Q same_end h first = record {
   takes = first.takes;
   over = λ e. same_end ∙ first.over e;
   ended = first.ended ∙ ap (λ (over : Bool). put a.ended slot over) (sym same_end);
-  told = weaker_told a (Tells slot first.count x y P) (Tells slot first.count x z Q)
+  told = λ k. weaker_told a (Tells slot first.count x y P) (Tells slot first.count x z Q)
       (λ t p rest may. subst (λ (over : Bool). Q (before_end x (take first.count (t.left slot) ++ rest)) (z.bytes ++ beyond over rest)) (sym same_end)
-      (h (before_end x (take first.count (t.left slot) ++ rest)) (beyond y.over rest) (p rest (λ e. may (same_end ∙ e))))) first.told;
+      (h (before_end x (take first.count (t.left slot) ++ rest)) (beyond y.over rest) (p rest (λ e. may (same_end ∙ e))))) (first.told k);
 }
 
 -- the same read, of which less is said
@@ -193,27 +193,27 @@ line_stops left slot stop.NoMemory line x z w a c same_end stops first =
 pub fails_at_once : (slot : ℕ) (ahead : Held) (a b : DeskState) (P : List ℕ → Type 0) → P ahead.bytes → ahead.over ≡ false → FailsToRead same a b → FailsAhead slot ahead a b P
 fails_at_once slot ahead a b P h not_over fails = record {
   count = 0;
-  fails = record { view = fails.view ∙ sym (taken-none slot a.view); tells = fails.tells; reads = fails.reads; writes = fails.writes };
+  fails = record { view = fails.view ∙ sym (taken-none slot a.view); tells = fails.tells; reads = fails.reads; writes = fails.writes; kept = fails.kept };
   not_over = not_over;
-  told = always_told a (λ t. (0 ≤ length (t.left slot)) × P (ahead.bytes ++ take 0 (t.left slot))) (λ t. (omega arith, subst P (sym (append-nil ahead.bytes)) h));
+  told = λ k. always_told a (λ t. (0 ≤ length (t.left slot)) × P (ahead.bytes ++ take 0 (t.left slot))) (λ t. (omega arith, subst P (sym (append-nil ahead.bytes)) h));
 }
 
 -- a read fails later
 pub fails_then : (slot : ℕ) (x y : Held) (a b c : DeskState) (P : List ℕ → List ℕ → Type 0) (Q R : List ℕ → Type 0) → ((bytes part : List ℕ) → ((behind : List ℕ) → P (bytes ++ behind) (part ++ behind)) → Q part → R bytes)
     → TakesAhead slot x y a b P → FailsAhead slot y b c Q → FailsAhead slot x a c R
 fails_then slot x y a b c P Q R joins first second =
-    let later : IfTold a (λ t. (second.count ≤ length (drop first.count (t.left slot))) × Q (y.bytes ++ take second.count (drop first.count (t.left slot)))) =
-    told_after slot first.count (λ left. (second.count ≤ length left) × Q (y.bytes ++ take second.count left)) a b first.takes.reached.view second.told in
-    let both : IfTold a (λ t. (first.count ≤ length (t.left slot)) × Tells slot first.count x y P t) =
-    both_told (λ t. first.count ≤ length (t.left slot)) (Tells slot first.count x y P) (λ t. (first.count ≤ length (t.left slot)) × Tells slot first.count x y P t) a (λ t le p. (le, p)) first.takes.were_left first.told in
+    let later : IfKept a c (λ t. (second.count ≤ length (drop first.count (t.left slot))) × Q (y.bytes ++ take second.count (drop first.count (t.left slot)))) =
+    λ k. told_after slot first.count (λ left. (second.count ≤ length left) × Q (y.bytes ++ take second.count left)) a b first.takes.reached.view (second.told k) in
+    let both : IfKept a b (λ t. (first.count ≤ length (t.left slot)) × Tells slot first.count x y P t) =
+    λ k. both_told (λ t. first.count ≤ length (t.left slot)) (Tells slot first.count x y P) (λ t. (first.count ≤ length (t.left slot)) × Tells slot first.count x y P t) a (λ t le p. (le, p)) (first.takes.were_left k) (first.told k) in
     record {
       count = first.count + second.count;
       fails = then_fails_to_read (taken slot first.count) (taken slot second.count) (taken slot (first.count + second.count)) a b c (taken-taken slot first.count second.count) first.takes.reached second.fails;
       not_over = open_before x.over refl;
-      told = both_told (λ t. (first.count ≤ length (t.left slot)) × Tells slot first.count x y P t)
+      told = λ k. both_told (λ t. (first.count ≤ length (t.left slot)) × Tells slot first.count x y P t)
           (λ t. (second.count ≤ length (drop first.count (t.left slot))) × Q (y.bytes ++ take second.count (drop first.count (t.left slot))))
           (λ t. (first.count + second.count ≤ length (t.left slot)) × R (x.bytes ++ take (first.count + second.count) (t.left slot))) a
-          (λ t p q. (omega (arith, p.0, q.0, length-drop first.count (t.left slot)), join first.count second.count (t.left slot) p.1 q.1)) both later;
+          (λ t p q. (omega (arith, p.0, q.0, length-drop first.count (t.left slot)), join first.count second.count (t.left slot) p.1 q.1)) (both (second.fails.kept k)) (later k);
     }
   where
     open_before : (over : Bool) → x.over ≡ over → x.over ≡ false
@@ -239,8 +239,8 @@ fails_weaker slot ahead a b P Q weaker h = record {
   count = h.count;
   fails = h.fails;
   not_over = h.not_over;
-  told = weaker_told a (λ t. (h.count ≤ length (t.left slot)) × P (ahead.bytes ++ take h.count (t.left slot))) (λ t. (h.count ≤ length (t.left slot)) × Q (ahead.bytes ++ take h.count (t.left slot)))
-      (λ t p. (p.0, weaker (ahead.bytes ++ take h.count (t.left slot)) p.1)) h.told;
+  told = λ k. weaker_told a (λ t. (h.count ≤ length (t.left slot)) × P (ahead.bytes ++ take h.count (t.left slot))) (λ t. (h.count ≤ length (t.left slot)) × Q (ahead.bytes ++ take h.count (t.left slot)))
+      (λ t p. (p.0, weaker (ahead.bytes ++ take h.count (t.left slot)) p.1)) (h.told k);
 }
 
 -- a line's end is not there yet

@@ -8,7 +8,7 @@ use Rattle.std.specs.Option.{option_map}
 use Rattle.std.specs.declared.option.Option.{Option}
 use Rattle.std.specs.declared.option.Option.TheVariants.{Some, None}
 use Rattle.pb_desk.specs.View.{Told, View, put, taken}
-use Rattle.pb_desk.specs.Desk.{DeskState, Reads, Advances, Gives, IfTold}
+use Rattle.pb_desk.specs.Desk.{DeskState, Reads, Advances, Gives, IfKept, IfTold}
 use Rattle.pb_desk.proofs.Steps.{reads_by_then}
 
 pub put-same : {X : Type 0} (f : ℕ → X) (place : ℕ) (x : X) → put f place x place ≡ x
@@ -46,11 +46,11 @@ both_told P Q R a gives p q = by_cases a.view.told p q
     by_cases None p q = tt
     by_cases (Some t) p q = gives t p q
 
-pub takes_more : (slot n m : ℕ) (room : List ℕ) (a b c : DeskState) → Advances slot n a b → Reads (taken slot m) b c → IfTold b (λ t. Gives (t.left slot) m room) → Advances slot (n + m) a c
+pub takes_more : (slot n m : ℕ) (room : List ℕ) (a b c : DeskState) → Advances slot n a b → Reads (taken slot m) b c → IfKept b c (λ t. Gives (t.left slot) m room) → Advances slot (n + m) a c
 takes_more slot n m room a b c first second given = record {
   reached = reads_by_then (taken slot n) (taken slot m) (taken slot (n + m)) a b c (taken-taken slot n m) first.reached second;
-  were_left = both_told (λ t. n ≤ length (t.left slot)) (λ t. Gives (drop n (t.left slot)) m room) (λ t. n + m ≤ length (t.left slot)) a
-      (λ t le gives. omega (arith, gives.enough, length-drop n (t.left slot))) first.were_left (told_after slot n (λ left. Gives left m room) a b first.reached.view given);
+  were_left = λ k. both_told (λ t. n ≤ length (t.left slot)) (λ t. Gives (drop n (t.left slot)) m room) (λ t. n + m ≤ length (t.left slot)) a
+      (λ t le gives. omega (arith, gives.enough, length-drop n (t.left slot))) (first.were_left (second.kept k)) (told_after slot n (λ left. Gives left m room) a b first.reached.view (given k));
 }
 
 pub text_so_far : (slot n m : ℕ) (text room : List ℕ) (a b : DeskState) → Advances slot n a b → IfTold a (λ t. text ≡ take n (t.left slot)) → IfTold b (λ t. Gives (t.left slot) m room) → IfTold a (λ t. text ++ take m room ≡ take (n + m) (t.left slot))
@@ -62,13 +62,13 @@ whole_at_end slot n m text room a b first so_far none some given = both_told (λ
     (λ t is gives. is ∙ sym (append-nil (take n (t.left slot))) ∙ ap (λ (rest : List ℕ). take n (t.left slot) ++ rest) (sym (gives.end none some)) ∙ take-append-drop n (t.left slot)) so_far (told_after slot n (λ left. Gives left m room) a b first.reached.view given)
 
 -- the text grew by what was read
-pub grows : (slot n m : ℕ) (text room grown : List ℕ) (a b c : DeskState) → n ≡ length text → grown ≡ text ++ take m room → m ≤ length room → Advances slot n a b → Reads (taken slot m) b c → IfTold a (λ t. text ≡ take n (t.left slot)) → IfTold b (λ t. Gives (t.left slot) m room)
-    → Advances slot (length grown) a c × IfTold a (λ t. grown ≡ take (length grown) (t.left slot))
+pub grows : (slot n m : ℕ) (text room grown : List ℕ) (a b c : DeskState) → n ≡ length text → grown ≡ text ++ take m room → m ≤ length room → Advances slot n a b → Reads (taken slot m) b c → IfKept a b (λ t. text ≡ take n (t.left slot)) → IfKept b c (λ t. Gives (t.left slot) m room)
+    → Advances slot (length grown) a c × IfKept a c (λ t. grown ≡ take (length grown) (t.left slot))
 grows slot n m text room grown a b c is_n is_grown in_room first second so_far given =
     let longer : length grown ≡ n + m = omega (arith, ap length is_grown, length-append text (take m room), length-take-le m room in_room) in (
       subst (λ (k : ℕ). Advances slot k a c) (sym longer) (takes_more slot n m room a b c first second given),
-      both_told (λ t. text ++ take m room ≡ take (n + m) (t.left slot)) (λ t. Unit {0}) (λ t. grown ≡ take (length grown) (t.left slot)) a
-          (λ t is _. is_grown ∙ is ∙ ap (λ (k : ℕ). take k (t.left slot)) (sym longer)) (text_so_far slot n m text room a b first so_far given) (anyway a),
+      λ k. both_told (λ t. text ++ take m room ≡ take (n + m) (t.left slot)) (λ t. Unit {0}) (λ t. grown ≡ take (length grown) (t.left slot)) a
+          (λ t is _. is_grown ∙ is ∙ ap (λ (k : ℕ). take k (t.left slot)) (sym longer)) (text_so_far slot n m text room a b first (so_far (second.kept k)) (given k)) (anyway a),
     )
   where
     anyway : (a : DeskState) → IfTold a (λ t. Unit {0})

@@ -9,7 +9,7 @@ use Rattle.pb_desk.specs.View.{View}
 use Rattle.pb_desk.specs.Desk.{DeskState, Reads, Reaches, FailsToWrite, FailsToRead}
 
 pub begin : (f : View → View) (a : DeskState) → ((v : View) → f v ≡ v) → Reaches f a a
-begin f a stays = record { view = sym (stays a.view); tells = refl; reads = refl; writes = refl; ended = refl }
+begin f a stays = record { view = sym (stays a.view); tells = refl; reads = refl; writes = refl; ended = refl; keeps = refl }
 
 -- a call that goes on from what was reached
 pub then : (f g h : View → View) (a b c : DeskState) → ((v : View) → g (f v) ≡ h v) → Reaches f a b → Reaches g b c → Reaches h a c
@@ -19,11 +19,12 @@ then f g h a b c joins first second = record {
   reads = second.reads ∙ first.reads;
   writes = second.writes ∙ first.writes;
   ended = second.ended ∙ first.ended;
+  keeps = second.keeps ∙ first.keeps;
 }
 
 -- where all counts stay, those of faults do
 pub as_reads : (f : View → View) (a b : DeskState) → Reaches f a b → Reads f a b
-as_reads f a b h = record { view = h.view; tells = h.tells; reads = h.reads; writes = h.writes }
+as_reads f a b h = record { view = h.view; tells = h.tells; reads = h.reads; writes = h.writes; kept = λ k. sym h.keeps ∙ k }
 
 pub reads_by_then : (f g h : View → View) (a b c : DeskState) → ((v : View) → g (f v) ≡ h v) → Reads f a b → Reads g b c → Reads h a c
 reads_by_then f g h a b c joins first second = record {
@@ -31,6 +32,7 @@ reads_by_then f g h a b c joins first second = record {
   tells = second.tells ∙ first.tells;
   reads = second.reads ∙ first.reads;
   writes = second.writes ∙ first.writes;
+  kept = λ k. first.kept (second.kept k);
 }
 
 pub then_fails_to_write : (f g h : View → View) (a b c : DeskState) → ((v : View) → g (f v) ≡ h v) → Reaches f a b → FailsToWrite g b c → FailsToWrite h a c
@@ -40,6 +42,7 @@ then_fails_to_write f g h a b c joins first second = record {
   reads = second.reads ∙ first.reads;
   writes = rose_later _ _ _ first.writes second.writes;
   ended = second.ended ∙ first.ended;
+  keeps = second.keeps ∙ first.keeps;
 }
 
 pub then_fails_to_read : (f g h : View → View) (a b c : DeskState) → ((v : View) → g (f v) ≡ h v) → Reads f a b → FailsToRead g b c → FailsToRead h a c
@@ -48,6 +51,7 @@ then_fails_to_read f g h a b c joins first second = record {
   tells = second.tells ∙ first.tells;
   reads = rose_later _ _ _ first.reads second.reads;
   writes = second.writes ∙ first.writes;
+  kept = λ k. first.kept (second.kept k);
 }
 
 -- the slice `&text[at..]`, as a goal has it

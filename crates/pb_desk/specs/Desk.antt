@@ -5,27 +5,32 @@ use Rattle.std.specs.declared.option.Option.TheVariants.{Some}
 use Rattle.pb_base.specs.FaultCounts.{Rose}
 use Rattle.pb_desk.specs.View.{Made, Told, View, bytes_in, taken}
 
--- a desk, as contracts see it: what it shows, how many reads and writes have failed, and of which slots the end was met
+-- A desk, as contracts see it: what it shows, how many reads and writes have failed, of which slots the end was met, and whether each
+-- answer up to now was as the desk tells.
 pub record DeskState : Type 0 where
   pub view : View
   pub read_faults : ℕ
   pub write_faults : ℕ
   pub ended : ℕ → Bool
+  pub keeps : Bool
 
--- Nothing failed: the view changed so, and the counts of faults stay. Which ends were met may have changed.
+-- Nothing failed: the view changed so, and the counts of faults stay. Which ends were met may have changed. A desk that has ceased to keep
+-- to what it tells never does so again.
 pub record Reads (change : View → View) (old new : DeskState) : Type 0 where
   pub view : new.view ≡ change old.view
   pub tells : is_some new.view.told ≡ is_some old.view.told
   pub reads : new.read_faults ≡ old.read_faults
   pub writes : new.write_faults ≡ old.write_faults
+  pub kept : IsTrue new.keeps → IsTrue old.keeps
 
--- The same, and the slots whose end was met are those.
+-- The same, and the slots whose end was met are those. It keeps to what it tells iff it did.
 pub record Reaches (change : View → View) (old new : DeskState) : Type 0 where
   pub view : new.view ≡ change old.view
   pub tells : is_some new.view.told ≡ is_some old.view.told
   pub reads : new.read_faults ≡ old.read_faults
   pub writes : new.write_faults ≡ old.write_faults
   pub ended : new.ended ≡ old.ended
+  pub keeps : new.keeps ≡ old.keeps
 
 -- A read failed after the view changed so. The count of reads rose by one, and that of writes stays.
 pub record FailsToRead (change : View → View) (old new : DeskState) : Type 0 where
@@ -33,6 +38,7 @@ pub record FailsToRead (change : View → View) (old new : DeskState) : Type 0 w
   pub tells : is_some new.view.told ≡ is_some old.view.told
   pub reads : Rose old.read_faults new.read_faults
   pub writes : new.write_faults ≡ old.write_faults
+  pub kept : IsTrue new.keeps → IsTrue old.keeps
 
 -- A write failed after the view changed so. The count of writes rose by one, and that of reads and the ends stay.
 pub record FailsToWrite (change : View → View) (old new : DeskState) : Type 0 where
@@ -41,6 +47,7 @@ pub record FailsToWrite (change : View → View) (old new : DeskState) : Type 0 
   pub reads : new.read_faults ≡ old.read_faults
   pub writes : Rose old.write_faults new.write_faults
   pub ended : new.ended ≡ old.ended
+  pub keeps : new.keeps ≡ old.keeps
 
 abbrev pub same : View → View
 same view = view
@@ -52,6 +59,10 @@ IsSteady desk = IsTrue desk.view.steady
 abbrev pub IfTold : DeskState → (Told → Type 0) → Type 0
 IfTold desk P = IfSome desk.view.told P
 
+-- so it is where each answer up to the new desk was as the desk tells
+abbrev pub IfKept : DeskState → DeskState → (Told → Type 0) → Type 0
+IfKept old new P = IsTrue new.keeps → IfTold old P
+
 -- the desk tells, and what it tells is so
 abbrev pub IsTold : DeskState → (Told → Type 0) → Type 0
 IsTold desk P = IsSomeAnd desk.view.told P
@@ -59,7 +70,7 @@ IsTold desk P = IsSomeAnd desk.view.told P
 -- so many bytes of a slot were taken, of those that were left
 pub record Advances (slot count : ℕ) (old new : DeskState) : Type 0 where
   pub reached : Reads (taken slot count) old new
-  pub were_left : IfTold old (λ t. count ≤ length (t.left slot))
+  pub were_left : IfKept old new (λ t. count ≤ length (t.left slot))
 
 -- count bytes that were left are now in the room: none only at the end or for want of room
 pub record Gives (left : List ℕ) (count : ℕ) (room : List ℕ) : Type 0 where

@@ -3,7 +3,7 @@ use Rattle.std.specs.Prelude.{◌≡◌, ◌≤◌, ◌++◌, ℕ, Bool, true, f
 use Rattle.pb_base.specs.declared.limit.LimitKind.{LimitKind}
 use Rattle.pb_desk.specs.declared.limits.Remaining.{Remaining}
 use Rattle.pb_desk.specs.View.{put, taken}
-use Rattle.pb_desk.specs.Desk.{DeskState, Advances, FailsToRead, IfTold}
+use Rattle.pb_desk.specs.Desk.{DeskState, Advances, FailsToRead, IfKept}
 use Rattle.pb_desk.specs.Limits.{limit_of}
 use Rattle.pb_desk.specs.Lines.{IsUnbroken}
 
@@ -43,7 +43,7 @@ pub record TakesAhead (slot : ℕ) (ahead ahead' : Held) (before after : DeskSta
   pub takes : Advances slot count before after
   pub over : ahead.over ≡ true → ahead'.over ≡ true
   pub ended : after.ended ≡ put before.ended slot ahead'.over
-  pub told : IfTold before (λ t. (rest : List ℕ) → MayStand ahead' (drop count (t.left slot)) rest → P (before_end ahead (take count (t.left slot) ++ rest)) (before_end ahead' rest))
+  pub told : IfKept before after (λ t. (rest : List ℕ) → MayStand ahead' (drop count (t.left slot)) rest → P (before_end ahead (take count (t.left slot) ++ rest)) (before_end ahead' rest))
 
 -- A read failed, after so many bytes of the slot, whose end was not met. Of the bytes that stood ahead or were
 -- taken before it this is so.
@@ -51,7 +51,7 @@ pub record FailsAhead (slot : ℕ) (ahead : Held) (before after : DeskState) (P 
   pub count : ℕ
   pub fails : FailsToRead (taken slot count) before after
   pub not_over : ahead.over ≡ false
-  pub told : IfTold before (λ t. (count ≤ length (t.left slot)) × P (ahead.bytes ++ take count (t.left slot)))
+  pub told : IfKept before after (λ t. (count ≤ length (t.left slot)) × P (ahead.bytes ++ take count (t.left slot)))
 
 -- the bytes are a part of a line: they hold no LF, and pass no limit
 abbrev pub IsPart : Remaining → List ℕ → Type 0

@@ -1,7 +1,7 @@
 -- How two texts of one desk are read side by side (our own).
 use Rattle.std.specs.Prelude.{◌≡◌, ◌≢◌, ℕ, true, List, ◌++◌, take, drop}
 use Rattle.pb_desk.specs.View.{View, taken}
-use Rattle.pb_desk.specs.Desk.{DeskState, Reads, FailsToRead, IfTold}
+use Rattle.pb_desk.specs.Desk.{DeskState, Reads, FailsToRead, IfKept}
 use Rattle.pb_desk.specs.LineReading.{Held, Knows, MayStand, before_end}
 use Rattle.pb_desk.specs.LineReaders.{Reader}
 
@@ -14,14 +14,14 @@ pub record TakesBoth (one two : ℕ) (P : List ℕ → List ℕ → Type 0) (old
   pub of_one : ℕ
   pub of_two : ℕ
   pub reached : Reads (both_taken one two of_one of_two) old new
-  pub texts : IfTold old (λ t. P (t.left one) (t.left two))
+  pub texts : IfKept old new (λ t. P (t.left one) (t.left two))
 
 -- A read failed after bytes of the two slots were taken. Of the bytes that were taken this is so.
 pub record FailsBoth (one two : ℕ) (P : List ℕ → List ℕ → Type 0) (old new : DeskState) : Type 0 where
   pub of_one : ℕ
   pub of_two : ℕ
   pub fails : FailsToRead (both_taken one two of_one of_two) old new
-  pub told : IfTold old (λ t. P (take of_one (t.left one)) (take of_two (t.left two)))
+  pub told : IfKept old new (λ t. P (take of_one (t.left one)) (take of_two (t.left two)))
 
 -- two texts that could stand before the ends of both, where these bytes of each were taken
 pub record CouldStand (one two : Held) (of_one of_two c p : List ℕ) : Type 0 where
@@ -46,7 +46,7 @@ pub record ReadsBoth (one two one' two' : Reader) (before after : DeskState) (P 
   pub of_two : ℕ
   pub reached : Reads (both_taken one.slot two.slot of_one of_two) before after
   pub knows : KnowsBoth one two before → KnowsBoth one' two' after
-  pub told : IfTold before (λ t. (rest other : List ℕ) → MayStand one'.ahead (drop of_one (t.left one.slot)) rest → MayStand two'.ahead (drop of_two (t.left two.slot)) other
+  pub told : IfKept before after (λ t. (rest other : List ℕ) → MayStand one'.ahead (drop of_one (t.left one.slot)) rest → MayStand two'.ahead (drop of_two (t.left two.slot)) other
       → P (before_end one.ahead (take of_one (t.left one.slot) ++ rest)) (before_end two.ahead (take of_two (t.left two.slot) ++ other)) (before_end one'.ahead rest) (before_end two'.ahead other))
 
 -- One of two readers of two slots failed to read. Of the texts that could stand before the ends of both, by what was taken of them, this is so.
@@ -54,4 +54,4 @@ pub record MissesBoth (one two : Reader) (before after : DeskState) (P : (List �
   pub of_one : ℕ
   pub of_two : ℕ
   pub fails : FailsToRead (both_taken one.slot two.slot of_one of_two) before after
-  pub told : IfTold before (λ t. P (CouldStand one.ahead two.ahead (take of_one (t.left one.slot)) (take of_two (t.left two.slot))))
+  pub told : IfKept before after (λ t. P (CouldStand one.ahead two.ahead (take of_one (t.left one.slot)) (take of_two (t.left two.slot))))

@@ -1,7 +1,7 @@
 // Bytes that were taken from a slot before they are needed.
 ghost use Rattle.std.specs.Prelude.{◌≡◌, ◌≤◌, ◌<◌, ◌++◌, ◌==◌, [], false, length, drop, IfOk, OnOk, OnErr, IsTrue};
 ghost use Rattle.pb_desk.specs.View.{put};
-ghost use Rattle.pb_desk.specs.Desk.{Advances, FailsToRead, IfTold, IsSteady, same};
+ghost use Rattle.pb_desk.specs.Desk.{Advances, FailsToRead, IfKept, IsSteady, same};
 ghost use Rattle.pb_desk.specs.LineReading.{nothing_held};
 
 use crate::Desk;
@@ -73,8 +73,8 @@ impl ReadBuffer {
         requires open { IsTrue ((D.state desk.old).view.reading slot) }
         requires not_ended { (D.state desk.old).ended slot ≡ false }
         ensures taken { OnOk result (Advances slot (length self.new.bytes) (D.state desk.old) (D.state desk.new)) }
-        ensures bytes { OnOk result (IfTold (D.state desk.old) (λ t. t.left slot ≡ self.new.bytes ++ drop (length self.new.bytes) (t.left slot))) }
-        ensures end { OnOk result (self.new.bytes ≡ [] → IfTold (D.state desk.old) (λ t. t.left slot ≡ [])) }
+        ensures bytes { OnOk result (IfKept (D.state desk.old) (D.state desk.new) (λ t. t.left slot ≡ self.new.bytes ++ drop (length self.new.bytes) (t.left slot))) }
+        ensures end { OnOk result (self.new.bytes ≡ [] → IfKept (D.state desk.old) (D.state desk.new) (λ t. t.left slot ≡ [])) }
         ensures over { OnOk result (self.new.over ≡ (length self.new.bytes == 0)) }
         ensures ended { OnOk result ((D.state desk.new).ended ≡ put (D.state desk.old).ended slot self.new.over) }
         ensures failed { OnErr result (FailsToRead same (D.state desk.old) (D.state desk.new)) }

@@ -1,13 +1,14 @@
 // The trait, and what each call promises.
 ghost use Rattle.std.specs.Prelude.{◌≡◌, ◌≤◌, ◌<◌, ◌==◌, ℕ, length, take, false, IsTrue, IsSome, IsNone, IfSome, IfOk, OnOk, OnErr};
 ghost use Rattle.pb_desk.specs.View.{put, opened, taken, created, wrote, closed, spoke};
-ghost use Rattle.pb_desk.specs.Desk.{DeskState, Reads, Reaches, FailsToRead, FailsToWrite, same, IsSteady, IfTold, IsTold, Gives, TakesSome, HasName, HasSlot, IsTaken, LacksRoom, FitsRoom, written, words};
+ghost use Rattle.pb_desk.specs.Desk.{DeskState, Reads, Reaches, FailsToRead, FailsToWrite, same, IsSteady, IfTold, IfKept, IsTold, Gives, TakesSome, HasName, HasSlot, IsTaken, LacksRoom, FitsRoom, written, words};
 
 use pb_base::Failed;
 
 /// Files to read in slots 0 to 4, files to write in slots 0 and 1, and a place to speak.
 pub trait Desk {
-    /// What the desk shows, how often reading and writing have failed, and of which slots the end was met.
+    /// What the desk shows, how often reading and writing have failed, of which slots the end was met, and whether it has kept to what it
+    /// tells.
     ghost state: { Self → DeskState };
 
     /// Opens a file to read.
@@ -20,8 +21,8 @@ pub trait Desk {
         ensures begun { OnOk result ((state self.new).ended ≡ put (state self.old).ended slot false) }
         // On failure the count of failed reads rose by one, or has reached 2^64 - 1, and nothing else changed.
         ensures failed { OnErr result (FailsToRead same (state self.old) (state self.new)) }
-        // A visible desk has a file that it opens.
-        ensures found { OnOk result (IfTold (state self.old) (λ t. IsSome (t.shelf name.now))) }
+        // A visible desk that keeps to what it tells has a file that it opens.
+        ensures found { OnOk result (IfKept (state self.old) (state self.new) (λ t. IsSome (t.shelf name.now))) }
         // On a steady desk it fails only if there is no such file.
         ensures steady { IsSteady (state self.old) → OnErr result (IsTold (state self.old) (λ t. IsNone (t.shelf name.now))) }
         // On failure the ends that were met are as they were.
@@ -38,8 +39,8 @@ pub trait Desk {
         ensures failed { OnErr result (FailsToRead same (state self.old) (state self.new)) }
         // The number of bytes is at most the room's.
         ensures count { IfOk result (λ count. count ≤ length room.new) }
-        // On a visible desk the bytes are the next ones, and there are none, for some room, only at the end.
-        ensures bytes { IfOk result (λ count. IfTold (state self.old) (λ t. Gives (t.left slot) count room.new)) }
+        // On a visible desk that keeps to what it tells the bytes are the next ones, and there are none, for some room, only at the end.
+        ensures bytes { IfOk result (λ count. IfKept (state self.old) (state self.new) (λ t. Gives (t.left slot) count room.new)) }
         // On a steady desk no read fails.
         ensures steady { IsSteady (state self.old) → OnErr result ⊥ }
         // On success the end of the slot was met iff no byte was read, and those of other slots are as they were.
@@ -55,8 +56,8 @@ pub trait Desk {
         ensures ok { OnOk result (Reaches (created slot name.now) (state self.old) (state self.new)) }
         // On failure the count of failed writes rose by one, or has reached 2^64 - 1, and nothing else changed.
         ensures failed { OnErr result (FailsToWrite same (state self.old) (state self.new)) }
-        // A visible desk makes no name twice.
-        ensures fresh { OnOk result (IfTold (state self.old) (λ t. HasName name.now t.made → ⊥)) }
+        // A steady desk makes no name twice.
+        ensures fresh { IsSteady (state self.old) → OnOk result (IfTold (state self.old) (λ t. HasName name.now t.made → ⊥)) }
         // On a steady desk it fails only if the name or the slot was used, or the name has more than 255 bytes.
         ensures steady { IsSteady (state self.old) → OnErr result (IsTold (state self.old) (λ t. IsTaken slot name.now t.made)) };
 
@@ -100,6 +101,9 @@ pub trait Desk {
 
     /// A steady desk is visible.
     ghost steady_tells: { (desk : Self) → IsSteady (state desk) → IsSome (state desk).view.told };
+
+    /// A steady desk keeps to what it tells.
+    ghost steady_keeps: { (desk : Self) → IsSteady (state desk) → IsTrue (state desk).keeps };
 
     /// A steady desk has a known room.
     ghost steady_has_room: { (desk : Self) → IsSteady (state desk) → IsSome (state desk).view.room };

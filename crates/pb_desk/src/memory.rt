@@ -140,10 +140,10 @@ impl MemoryDesk {
 impl Desk for MemoryDesk {
     ghost use Rattle.std.specs.Prelude.{◌≡◌, ◌≤◌, ◌<◌, ◌↔◌, ◌⊎◌, ◌==◌, length, take, drop, false, IsTrue, IsSome, IsNone, IsErr, IfOk, OnOk, OnErr};
     ghost use Rattle.pb_desk.specs.View.{put, opened, taken, created, wrote, closed, spoke};
-    ghost use Rattle.pb_desk.specs.Desk.{Reads, Reaches, FailsToRead, FailsToWrite, same, IsSteady, IfTold, IsTold, Gives, TakesSome, HasName, IsTaken, LacksRoom, written, words};
+    ghost use Rattle.pb_desk.specs.Desk.{Reads, Reaches, FailsToRead, FailsToWrite, same, IsSteady, IfTold, IfKept, IsTold, Gives, TakesSome, HasName, IsTaken, LacksRoom, written, words};
     ghost use Rattle.pb_desk.specs.Memory.{counted, is_failing};
     ghost use Rattle.pb_desk.specs.MemoryState.{state_of, plan_of};
-    ghost use Rattle.pb_desk.specs.inner.MemoryLaws.{memory_has_file, memory_tells, memory_has_room, memory_fits};
+    ghost use Rattle.pb_desk.specs.inner.MemoryLaws.{memory_has_file, memory_tells, memory_keeps, memory_has_room, memory_fits};
 
     ghost state = { state_of };
 
@@ -153,7 +153,7 @@ impl Desk for MemoryDesk {
         ensures ok { OnOk result (Reads (opened slot name.now) (state_of self.old) (state_of self.new)) }
         ensures begun { OnOk result ((state_of self.new).ended ≡ put (state_of self.old).ended slot false) }
         ensures failed { OnErr result (FailsToRead same (state_of self.old) (state_of self.new)) }
-        ensures found { OnOk result (IfTold (state_of self.old) (λ t. IsSome (t.shelf name.now))) }
+        ensures found { OnOk result (IfKept (state_of self.old) (state_of self.new) (λ t. IsSome (t.shelf name.now))) }
         ensures steady { IsSteady (state_of self.old) → OnErr result (IsTold (state_of self.old) (λ t. IsNone (t.shelf name.now))) }
         ensures no_end { OnErr result ((state_of self.new).ended ≡ (state_of self.old).ended) }
         // Each call counts itself.
@@ -178,7 +178,7 @@ impl Desk for MemoryDesk {
         ensures ok { IfOk result (λ count. Reads (taken slot count) (state_of self.old) (state_of self.new)) }
         ensures failed { OnErr result (FailsToRead same (state_of self.old) (state_of self.new)) }
         ensures count { IfOk result (λ count. count ≤ length room.new) }
-        ensures bytes { IfOk result (λ count. IfTold (state_of self.old) (λ t. Gives (t.left slot) count room.new)) }
+        ensures bytes { IfOk result (λ count. IfKept (state_of self.old) (state_of self.new) (λ t. Gives (t.left slot) count room.new)) }
         ensures steady { IsSteady (state_of self.old) → OnErr result ⊥ }
         ensures ended { IfOk result (λ count. (state_of self.new).ended ≡ put (state_of self.old).ended slot (count == 0)) }
         ensures no_end { OnErr result ((state_of self.new).ended ≡ (state_of self.old).ended) }
@@ -212,7 +212,7 @@ impl Desk for MemoryDesk {
         requires free { (state_of self.old).view.writing slot ≡ false }
         ensures ok { OnOk result (Reaches (created slot name.now) (state_of self.old) (state_of self.new)) }
         ensures failed { OnErr result (FailsToWrite same (state_of self.old) (state_of self.new)) }
-        ensures fresh { OnOk result (IfTold (state_of self.old) (λ t. HasName name.now t.made → ⊥)) }
+        ensures fresh { IsSteady (state_of self.old) → OnOk result (IfTold (state_of self.old) (λ t. HasName name.now t.made → ⊥)) }
         ensures steady { IsSteady (state_of self.old) → OnErr result (IsTold (state_of self.old) (λ t. IsTaken slot name.now t.made)) }
         ensures counted { plan_of self.new ≡ counted (plan_of self.old) }
         // It fails iff the plan says so, the name or the slot was used, or the name has more than 255 bytes.
@@ -300,6 +300,8 @@ impl Desk for MemoryDesk {
     ghost open_has_file = { λ desk slot is_open. memory_has_file desk slot is_open };
 
     ghost steady_tells = { λ desk steady. memory_tells desk };
+
+    ghost steady_keeps = { λ desk steady. memory_keeps desk };
 
     ghost steady_has_room = { λ desk steady. memory_has_room desk };
 

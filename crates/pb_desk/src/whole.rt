@@ -1,7 +1,7 @@
 // Calls over a desk that go on until all is done.
 ghost use Rattle.std.specs.Prelude.{◌≡◌, ◌≤◌, ◌<◌, ◌≢◌, ℕ, length, true, false, IsTrue, IfOk, OnOk, OnErr};
 ghost use Rattle.pb_desk.specs.View.{put, wrote, spoke, taken};
-ghost use Rattle.pb_desk.specs.Desk.{Reaches, IsSteady, IfTold, LacksRoom, written, words, StopsIn, Advances, FailsToRead};
+ghost use Rattle.pb_desk.specs.Desk.{Reaches, IsSteady, IfKept, LacksRoom, written, words, StopsIn, Advances, FailsToRead};
 
 use crate::Desk;
 use pb_base::{Bytes, Failed};
@@ -65,7 +65,7 @@ fn read_pieces<D: Desk>(
     requires not_ended { (D.state desk.old).ended slot ≡ false }
     requires some_room { 0 < length room.old }
     ensures taken { IfOk result (λ text. Advances slot (length text) (D.state desk.old) (D.state desk.new)) }
-    ensures whole { IfOk result (λ text. IfTold (D.state desk.old) (λ t. text ≡ t.left slot)) }
+    ensures whole { IfOk result (λ text. IfKept (D.state desk.old) (D.state desk.new) (λ t. text ≡ t.left slot)) }
     ensures in_limit { IfOk result (λ text. length text ≤ limit) }
     ensures too_long { result ≡ Err TextFault.TooLong → (count : ℕ) × (limit < count) × Advances slot count (D.state desk.old) (D.state desk.new) }
     ensures failed { result ≡ Err TextFault.Failed → (count : ℕ) × (count ≤ limit) × FailsToRead (taken slot count) (D.state desk.old) (D.state desk.new) }
@@ -100,8 +100,8 @@ pub fn read_whole<D: Desk>(
     requires not_ended { (D.state desk.old).ended slot ≡ false }
     // On success as many bytes were read from the slot as the text has.
     ensures taken { IfOk result (λ text. Advances slot (length text) (D.state desk.old) (D.state desk.new)) }
-    // On a visible desk the text is all that the slot had.
-    ensures whole { IfOk result (λ text. IfTold (D.state desk.old) (λ t. text ≡ t.left slot)) }
+    // On a visible desk that keeps to what it tells the text is all that the slot had.
+    ensures whole { IfOk result (λ text. IfKept (D.state desk.old) (D.state desk.new) (λ t. text ≡ t.left slot)) }
     // The text is within the limit.
     ensures in_limit { IfOk result (λ text. length text ≤ limit) }
     // `TooLong` is answered only after more bytes than the limit.

@@ -6,16 +6,17 @@ use Rattle.std.specs.declared.option.Option.TheVariants.{Some, None}
 use Rattle.std.specs.declared.result.Result.{Result}
 use Rattle.std.specs.declared.result.Result.TheVariants.{Ok, Err}
 use Rattle.pb_base.specs.declared.fault.Failed.{Failed}
-use Rattle.pb_files.specs.declared.handle.Handle.{Handle}
+use Rattle.pb_files.specs.declared.file_id.FileId.{FileId}
 
--- A call with its answer, none where the system failed. Files to read and to write are asked for by name; the others by number.
+-- A call with its answer, none where the system failed. Files are asked for by name, each for a slot; from then on the slot stands for
+-- the file. An open file is answered by what it is, if the system tells.
 pub data Call : Type 0 where
-  open_file : (name : List ℕ) (answer : Option Handle) → Call
-  create : (name : List ℕ) (answer : Option Handle) → Call
-  truncate : (file : ℕ) (answer : Option (Unit {0})) → Call
-  read : (file room : ℕ) (answer : Option (List ℕ)) → Call
-  write : (file : ℕ) (piece : List ℕ) (answer : Option ℕ) → Call
-  sync : (file : ℕ) (answer : Option (Unit {0})) → Call
+  open_file : (slot : ℕ) (name : List ℕ) (answer : Option (Option FileId)) → Call
+  create : (slot : ℕ) (name : List ℕ) (answer : Option (Option FileId)) → Call
+  truncate : (slot : ℕ) (answer : Option (Unit {0})) → Call
+  read : (slot room : ℕ) (answer : Option (List ℕ)) → Call
+  write : (slot : ℕ) (piece : List ℕ) (answer : Option ℕ) → Call
+  sync : (slot : ℕ) (answer : Option (Unit {0})) → Call
   say : (piece : List ℕ) (answer : Option ℕ) → Call
 
 -- the answer, as it is kept

@@ -1,2 +1,4 @@
 pub mod Calls
+pub mod Replay
 pub mod Asked
+pub mod inner

@@ -1,26 +1,25 @@
 // The system that the program runs on. That these lines make the right calls of std, and that std answers as the system did, is trusted.
 //
-// Files are in eight fixed places, so nothing here allocates: a run opens at most four texts and makes two files. A place is found
-// before a file is opened or made.
+// Each slot has a place of its own, so nothing here allocates.
 //
 // A call that was interrupted is made again, and is none of the desk's faults; std does so itself for opening, emptying and syncing.
 // Emptying and syncing may be invalid for a pipe or a device (EINVAL) and then count as done; for a regular file that is a fault.
 use crate::opened::{Opened, id_of};
-use crate::{FileId, Handle, System};
+use crate::{FileId, System};
 use pb_base::Failed;
 use std::fs::{self, File, OpenOptions};
 use std::io::{self, ErrorKind, Print, Read, Write};
 use std::os::fd::AsRawFd;
 use std::rt::Files;
 
-/// The system's files and standard output. It keeps at most eight files open, all to its end, which is more than a run
-/// opens, and no record of its calls.
+/// The system's files and standard output. It keeps each file open until its slot gets another, and no record of its calls.
 #[derive(Drop)]
 pub struct Host<'a, R: Files<File = File> + Print> {
     system: &'a R,
     closed: [Option<File>; 3],
     output: Option<FileId>,
-    files: [Option<Opened>; 8],
+    reading: [Option<Opened>; 5],
+    writing: [Option<Opened>; 2],
 }
 
 impl<'a, R: Files<File = File> + Print> Host<'a, R> {
@@ -31,39 +30,33 @@ impl<'a, R: Files<File = File> + Print> Host<'a, R> {
             system,
             closed,
             output: output_of(system),
-            files: [None, None, None, None, None, None, None, None],
+            reading: [None, None, None, None, None],
+            writing: [None, None],
         }
     }
 
-    // A place that holds no file.
-    fn place(&self) -> Result<usize, Failed> {
-        self.files
-            .iter()
-            .position(|file| file.is_none())
-            .ok_or(Failed)
-    }
-
-    // Keeps a file that was opened, by its place.
-    fn keep(&mut self, place: usize, file: File) -> Result<Handle, Failed> {
-        let id = id_of(file.metadata())?;
-        let opened = Opened::new(file)?;
-        let Some(kept) = self.files.get_mut(place) else {
-            return Err(Failed);
-        };
-        *kept = Some(opened);
-        Ok(Handle {
-            number: place as u64,
-            id,
-        })
-    }
-
-    // The file at a place.
-    fn file(&self, place: u64) -> Result<&File, Failed> {
-        match self.files.get(place as usize) {
+    // The file that a slot reads.
+    fn to_read(&self, slot: u8) -> Result<&File, Failed> {
+        match self.reading.get(slot as usize) {
             Some(Some(opened)) => Ok(opened.file()),
             _ => Err(Failed),
         }
     }
+
+    // The file that a slot writes.
+    fn to_write(&self, slot: u8) -> Result<&File, Failed> {
+        match self.writing.get(slot as usize) {
+            Some(Some(opened)) => Ok(opened.file()),
+            _ => Err(Failed),
+        }
+    }
+}
+
+// Keeps a file that was opened, and says which one it is.
+fn keep(place: &mut Option<Opened>, file: File) -> Result<Option<FileId>, Failed> {
+    let id = id_of(file.metadata())?;
+    *place = Some(Opened::new(file)?);
+    Ok(id)
 }
 
 // Takes the number of each standard stream that is closed, so that no file gets it. The system gives the lowest free
@@ -107,37 +100,37 @@ impl<'a, R: Files<File = File> + Print> System for Host<'a, R> {
 
     ghost calls = { λ host. None };
 
+    ghost files = { λ host name. None };
+
     ghost output = { λ host. host.output };
 
     fn output(&self) -> Option<FileId> {
         self.output
     }
 
-    fn open(&mut self, name: &str) -> Result<Handle, Failed> {
-        let place = self.place()?;
+    fn open(&mut self, slot: u8, name: &str) -> Result<Option<FileId>, Failed> {
         match fs::open(self.system, name) {
-            Ok(file) => self.keep(place, file),
+            Ok(file) => keep(&mut self.reading[slot as usize], file),
             Err(_) => Err(Failed),
         }
     }
 
-    fn create(&mut self, name: &str) -> Result<Handle, Failed> {
-        let place = self.place()?;
+    fn create(&mut self, slot: u8, name: &str) -> Result<Option<FileId>, Failed> {
         let mut options = OpenOptions::new();
         options.write(true).create(true);
         match options.open(self.system, name) {
-            Ok(file) => self.keep(place, file),
+            Ok(file) => keep(&mut self.writing[slot as usize], file),
             Err(_) => Err(Failed),
         }
     }
 
-    fn truncate(&mut self, file: u64) -> Result<(), Failed> {
-        let file = self.file(file)?;
+    fn truncate(&mut self, slot: u8) -> Result<(), Failed> {
+        let file = self.to_write(slot)?;
         unless_device(file, file.set_len(0))
     }
 
-    fn read(&mut self, file: u64, room: &mut [u8]) -> Result<usize, Failed> {
-        let mut file = self.file(file)?;
+    fn read(&mut self, slot: u8, room: &mut [u8]) -> Result<usize, Failed> {
+        let mut file = self.to_read(slot)?;
         for _ in 0..u64::MAX {
             match file.read(room) {
                 Ok(count) => return Ok(count),
@@ -148,8 +141,8 @@ impl<'a, R: Files<File = File> + Print> System for Host<'a, R> {
         Err(Failed)
     }
 
-    fn write(&mut self, file: u64, piece: &[u8]) -> Result<usize, Failed> {
-        let mut file = self.file(file)?;
+    fn write(&mut self, slot: u8, piece: &[u8]) -> Result<usize, Failed> {
+        let mut file = self.to_write(slot)?;
         for _ in 0..u64::MAX {
             match file.write(piece) {
                 Ok(count) => return Ok(count),
@@ -160,8 +153,8 @@ impl<'a, R: Files<File = File> + Print> System for Host<'a, R> {
         Err(Failed)
     }
 
-    fn sync(&mut self, file: u64) -> Result<(), Failed> {
-        let file = self.file(file)?;
+    fn sync(&mut self, slot: u8) -> Result<(), Failed> {
+        let file = self.to_write(slot)?;
         unless_device(file, file.sync_all())
     }
 

@@ -1,10 +1,12 @@
 // The desk of a system.
-ghost use Rattle.std.specs.Prelude.{◌≡◌, replicate, None};
+ghost use Rattle.std.specs.Prelude.{◌≡◌, ℕ, replicate, None, true};
+ghost use Rattle.std.specs.Option.{option_map, option_map_or, ForSome};
 ghost use Rattle.pb_desk.specs.Desk.{DeskState, IsClosed};
-ghost use Rattle.pb_files.specs.Asked.{Asked};
+ghost use Rattle.pb_files.specs.Asked.{marked, Asked};
+ghost use Rattle.pb_files.specs.Replay.{answers_as, has_slot, made_of, told_of};
 
 use crate::known::is_known;
-use crate::{FileId, Handle, System};
+use crate::{FileId, System};
 use pb_base::{Failed, FaultCount};
 use pb_desk::Desk;
 
@@ -13,29 +15,42 @@ pub trait Asks {
     ghost shown: { Self → DeskState };
 
     ghost asked: { Self → Asked };
+
+    /// It tells what its calls show over the files that are supposed.
+    ghost shows: { (desk : Self) → (shown desk).view.told ≡ option_map (told_of (asked desk).files) (asked desk).calls };
+
+    /// It keeps to that iff each answer was what those files give.
+    ghost answers: { (desk : Self) → (shown desk).keeps ≡ option_map_or (answers_as (asked desk).files) (asked desk).calls true };
 }
 
-/// The files and words of a system. As a desk it tells which slots are open or at their end and its counts, and nothing of what they
-/// hold; but each of its answers is the system's. It never makes, and so never empties, what standard output is, nor a
-/// file that a slot has, or had last: in a run, which uses each slot at most once, no file that it opened or made.
+/// The files and words of a system, each of whose answers is the system's. As a desk it tells what the system's calls show, where they
+/// are kept, over the files that are supposed; it keeps to that as long as each answer is what those files give. It never makes, and so
+/// never empties, what standard output is, nor a file that a slot has, or had last: in a run, which uses each slot at most once, no file
+/// that it opened or made.
 #[derive(Drop)]
 pub struct RealDesk<S: System + Drop> {
     system: S,
-    reading: [Option<Handle>; 5],
-    writing: [Option<Handle>; 2],
+    reading: [bool; 5],
+    writing: [bool; 2],
     known: [Option<FileId>; 7],
     output: Option<FileId>,
     read_faults: FaultCount,
     write_faults: FaultCount,
     over: [bool; 5],
+    ghost has_file: { (slot : ℕ) → marked writing slot ≡ true → ForSome (S.calls system) (λ calls. has_slot slot (made_of calls) ≡ true) },
 }
 
 impl<S: System + Drop> Asks for RealDesk<S> {
-    ghost use Rattle.pb_files.specs.Asked.{by_slot, untold};
+    ghost use Rattle.std.specs.Prelude.{refl};
+    ghost use Rattle.pb_files.specs.Asked.{replayed};
 
-    ghost shown = { λ desk. untold desk.reading desk.writing desk.read_faults desk.write_faults desk.over };
+    ghost shown = { λ desk. replayed (S.files desk.system) (S.calls desk.system) desk.reading desk.writing desk.read_faults desk.write_faults desk.over };
 
-    ghost asked = { λ desk. record { calls = S.calls desk.system; reading = by_slot (λ h. h) desk.reading; writing = by_slot (λ h. h) desk.writing; known = desk.known; output = desk.output } };
+    ghost asked = { λ desk. record { files = S.files desk.system; calls = S.calls desk.system; known = desk.known; output = desk.output } };
+
+    ghost shows = { λ desk. refl };
+
+    ghost answers = { λ desk. refl };
 }
 
 impl<S: System + Drop> RealDesk<S> {
@@ -43,12 +58,14 @@ impl<S: System + Drop> RealDesk<S> {
     pub fn new(system: S) -> Self
         // Nothing is open.
         ensures closed { IsClosed (⟦<RealDesk<S> as Desk>⟧.state result) }
-        // The desk is not visible.
-        ensures untelling { (⟦<RealDesk<S> as Desk>⟧.state result).view.told ≡ None }
+        // The desk shows what the calls up to now show over the files that are supposed, and is not visible where no calls are kept.
+        ensures tells { (⟦<RealDesk<S> as Desk>⟧.state result).view.told ≡ option_map (told_of (S.files system)) (S.calls system) }
         // No read has failed.
         ensures no_reads { (⟦<RealDesk<S> as Desk>⟧.state result).read_faults ≡ 0 }
         // No write has failed.
         ensures no_writes { (⟦<RealDesk<S> as Desk>⟧.state result).write_faults ≡ 0 }
+        // The files that are supposed are the system's.
+        ensures files { (⟦<RealDesk<S> as Asks>⟧.asked result).files ≡ S.files system }
         // The log of calls is the system's.
         ensures asks { (⟦<RealDesk<S> as Asks>⟧.asked result).calls ≡ S.calls system }
         // What standard output is, is what the system says.
@@ -59,8 +76,8 @@ impl<S: System + Drop> RealDesk<S> {
         let output = system.output();
         RealDesk {
             system,
-            reading: [None; 5],
-            writing: [None; 2],
+            reading: [false; 5],
+            writing: [false; 2],
             known: [None; 7],
             output,
             read_faults: FaultCount::new(),
@@ -75,9 +92,10 @@ impl<S: System + Drop> RealDesk<S> {
 impl<S: System + Drop> Desk for RealDesk<S> {
     ghost use Rattle.std.specs.Prelude.{◌≡◌, ◌≤◌, ◌<◌, ◌⊎◌, ◌==◌, length, take, false, IsTrue, IsSome, IsNone, IfOk, OnOk, OnErr, Some, None};
     ghost use Rattle.pb_desk.specs.View.{put, opened, taken, created, wrote, closed, spoke};
-    ghost use Rattle.pb_desk.specs.Desk.{Reads, Reaches, FailsToRead, FailsToWrite, same, IsSteady, IfTold, IsTold, Gives, TakesSome, HasName, IsTaken, LacksRoom, written, words};
-    ghost use Rattle.pb_files.specs.Calls.Call.{open_file as opens, say as says};
-    ghost use Rattle.pb_files.specs.Asked.{after, after_close, after_read, after_sync, after_write, Opens, Makes, Refuses};
+    ghost use Rattle.pb_desk.specs.Desk.{Reads, Reaches, FailsToRead, FailsToWrite, same, IsSteady, IfTold, IfKept, IsTold, Gives, TakesSome, HasName, IsTaken, LacksRoom, written, words};
+    ghost use Rattle.pb_files.specs.Calls.Call.{open_file as opens, read as reads, write as writes, sync as syncs, say as says};
+    ghost use Rattle.pb_files.specs.Asked.{after, Opens, Makes, Refuses};
+    ghost use Rattle.pb_files.specs.inner.ReplayLaws.{open_files};
 
     ghost state = { ⟦<RealDesk<S> as Asks>⟧.shown };
 
@@ -87,18 +105,18 @@ impl<S: System + Drop> Desk for RealDesk<S> {
         ensures ok { OnOk result (Reads (opened slot name.now) (⟦<RealDesk<S> as Asks>⟧.shown self.old) (⟦<RealDesk<S> as Asks>⟧.shown self.new)) }
         ensures begun { OnOk result ((⟦<RealDesk<S> as Asks>⟧.shown self.new).ended ≡ put (⟦<RealDesk<S> as Asks>⟧.shown self.old).ended slot false) }
         ensures failed { OnErr result (FailsToRead same (⟦<RealDesk<S> as Asks>⟧.shown self.old) (⟦<RealDesk<S> as Asks>⟧.shown self.new)) }
-        ensures found { OnOk result (IfTold (⟦<RealDesk<S> as Asks>⟧.shown self.old) (λ t. IsSome (t.shelf name.now))) }
+        ensures found { OnOk result (IfKept (⟦<RealDesk<S> as Asks>⟧.shown self.old) (⟦<RealDesk<S> as Asks>⟧.shown self.new) (λ t. IsSome (t.shelf name.now))) }
         ensures steady { IsSteady (⟦<RealDesk<S> as Asks>⟧.shown self.old) → OnErr result (IsTold (⟦<RealDesk<S> as Asks>⟧.shown self.old) (λ t. IsNone (t.shelf name.now))) }
         ensures no_end { OnErr result ((⟦<RealDesk<S> as Asks>⟧.shown self.new).ended ≡ (⟦<RealDesk<S> as Asks>⟧.shown self.old).ended) }
-        // On success the system was called once, to open this name, and the file that it gave is in the slot.
+        // On success the system was called once, and opened this name in the slot.
         ensures opens { let asked = ⟦<RealDesk<S> as Asks>⟧.asked in OnOk result (Opens slot name.now (asked self.old) (asked self.new)) }
-        // It fails iff the system gave none, and then the slots are as they were.
-        ensures refused { let asked = ⟦<RealDesk<S> as Asks>⟧.asked in OnErr result (asked self.new ≡ after (opens name.now None) (asked self.old)) }
+        // It fails iff the system gave none.
+        ensures refused { let asked = ⟦<RealDesk<S> as Asks>⟧.asked in OnErr result (asked self.new ≡ after (opens slot name.now None) (asked self.old)) }
     {
-        match self.system.open(name) {
-            Ok(file) => {
-                self.known[slot as usize] = file.id;
-                self.reading[slot as usize] = Some(file);
+        match self.system.open(slot, name) {
+            Ok(id) => {
+                self.known[slot as usize] = id;
+                self.reading[slot as usize] = true;
                 self.over[slot as usize] = false;
                 Ok(())
             }
@@ -113,20 +131,17 @@ impl<S: System + Drop> Desk for RealDesk<S> {
         ensures ok { IfOk result (λ count. Reads (taken slot count) (⟦<RealDesk<S> as Asks>⟧.shown self.old) (⟦<RealDesk<S> as Asks>⟧.shown self.new)) }
         ensures failed { OnErr result (FailsToRead same (⟦<RealDesk<S> as Asks>⟧.shown self.old) (⟦<RealDesk<S> as Asks>⟧.shown self.new)) }
         ensures count { IfOk result (λ count. count ≤ length room.new) }
-        ensures bytes { IfOk result (λ count. IfTold (⟦<RealDesk<S> as Asks>⟧.shown self.old) (λ t. Gives (t.left slot) count room.new)) }
+        ensures bytes { IfOk result (λ count. IfKept (⟦<RealDesk<S> as Asks>⟧.shown self.old) (⟦<RealDesk<S> as Asks>⟧.shown self.new) (λ t. Gives (t.left slot) count room.new)) }
         ensures steady { IsSteady (⟦<RealDesk<S> as Asks>⟧.shown self.old) → OnErr result ⊥ }
         ensures ended { IfOk result (λ count. (⟦<RealDesk<S> as Asks>⟧.shown self.new).ended ≡ put (⟦<RealDesk<S> as Asks>⟧.shown self.old).ended slot (count == 0)) }
         ensures no_end { OnErr result ((⟦<RealDesk<S> as Asks>⟧.shown self.new).ended ≡ (⟦<RealDesk<S> as Asks>⟧.shown self.old).ended) }
         // On success the system was called once, for this slot's file and so many bytes, and gave these; so the end is answered only if
         // the system said it.
-        ensures given { let asked = ⟦<RealDesk<S> as Asks>⟧.asked in IfOk result (λ count. asked self.new ≡ after_read slot (length room.old) (Some (take count room.new)) (asked self.old)) }
+        ensures given { let asked = ⟦<RealDesk<S> as Asks>⟧.asked in IfOk result (λ count. asked self.new ≡ after (reads slot (length room.old) (Some (take count room.new))) (asked self.old)) }
         // It fails iff the system's read failed.
-        ensures refused { let asked = ⟦<RealDesk<S> as Asks>⟧.asked in OnErr result (asked self.new ≡ after_read slot (length room.old) None (asked self.old)) }
+        ensures refused { let asked = ⟦<RealDesk<S> as Asks>⟧.asked in OnErr result (asked self.new ≡ after (reads slot (length room.old) None) (asked self.old)) }
     {
-        let Some(file) = self.reading[slot as usize] else {
-            unreachable!();
-        };
-        match self.system.read(file.number, room) {
+        match self.system.read(slot, room) {
             Ok(count) => {
                 self.over[slot as usize] = count == 0;
                 Ok(count)
@@ -140,28 +155,28 @@ impl<S: System + Drop> Desk for RealDesk<S> {
         requires free { (⟦<RealDesk<S> as Asks>⟧.shown self.old).view.writing slot ≡ false }
         ensures ok { OnOk result (Reaches (created slot name.now) (⟦<RealDesk<S> as Asks>⟧.shown self.old) (⟦<RealDesk<S> as Asks>⟧.shown self.new)) }
         ensures failed { OnErr result (FailsToWrite same (⟦<RealDesk<S> as Asks>⟧.shown self.old) (⟦<RealDesk<S> as Asks>⟧.shown self.new)) }
-        ensures fresh { OnOk result (IfTold (⟦<RealDesk<S> as Asks>⟧.shown self.old) (λ t. HasName name.now t.made → ⊥)) }
+        ensures fresh { IsSteady (⟦<RealDesk<S> as Asks>⟧.shown self.old) → OnOk result (IfTold (⟦<RealDesk<S> as Asks>⟧.shown self.old) (λ t. HasName name.now t.made → ⊥)) }
         ensures steady { IsSteady (⟦<RealDesk<S> as Asks>⟧.shown self.old) → OnErr result (IsTold (⟦<RealDesk<S> as Asks>⟧.shown self.old) (λ t. IsTaken slot name.now t.made)) }
-        // On success the system opened this name as it was, and then emptied the file, which is in the slot. As far as the system says,
+        // On success the system opened this name as it was, and then emptied the file. As far as the system says,
         // it is neither standard output nor a file last opened or made in a slot.
         ensures makes { let asked = ⟦<RealDesk<S> as Asks>⟧.asked in OnOk result (Makes slot name.now (asked self.old) (asked self.new)) }
         // It fails iff the system gave no file, or did not empty it, or the file is one of those; in the last case it was not emptied.
-        ensures refused { let asked = ⟦<RealDesk<S> as Asks>⟧.asked in OnErr result (Refuses name.now (asked self.old) (asked self.new)) }
+        ensures refused { let asked = ⟦<RealDesk<S> as Asks>⟧.asked in OnErr result (Refuses slot name.now (asked self.old) (asked self.new)) }
     {
-        let Ok(file) = self.system.create(name) else {
+        let Ok(id) = self.system.create(slot, name) else {
             return Err(self.write_faults.rise());
         };
-        if is_known(&[self.output], file.id) {
+        if is_known(&[self.output], id) {
             return Err(self.write_faults.rise());
         }
-        if is_known(&self.known, file.id) {
+        if is_known(&self.known, id) {
             return Err(self.write_faults.rise());
         }
-        let Ok(()) = self.system.truncate(file.number) else {
+        let Ok(()) = self.system.truncate(slot) else {
             return Err(self.write_faults.rise());
         };
-        self.known[5 + slot as usize] = file.id;
-        self.writing[slot as usize] = Some(file);
+        self.known[5 + slot as usize] = id;
+        self.writing[slot as usize] = true;
         Ok(())
     }
 
@@ -173,15 +188,12 @@ impl<S: System + Drop> Desk for RealDesk<S> {
         ensures count { IfOk result (TakesSome piece.now) }
         ensures steady { IsSteady (⟦<RealDesk<S> as Asks>⟧.shown self.old) → OnErr result (LacksRoom (written slot) 1 (⟦<RealDesk<S> as Asks>⟧.shown self.old)) }
         // On success the system was called once, with this slot's file and the piece, and took so many bytes.
-        ensures took { let asked = ⟦<RealDesk<S> as Asks>⟧.asked in IfOk result (λ count. asked self.new ≡ after_write slot piece.now (Some count) (asked self.old)) }
+        ensures took { let asked = ⟦<RealDesk<S> as Asks>⟧.asked in IfOk result (λ count. asked self.new ≡ after (writes slot piece.now (Some count)) (asked self.old)) }
         // It fails iff the system's write failed, or took no byte of a piece that has some.
-        ensures refused { let asked = ⟦<RealDesk<S> as Asks>⟧.asked in OnErr result ((asked self.new ≡ after_write slot piece.now None (asked self.old))
-            ⊎ ((0 < length piece.now) × (asked self.new ≡ after_write slot piece.now (Some 0) (asked self.old)))) }
+        ensures refused { let asked = ⟦<RealDesk<S> as Asks>⟧.asked in OnErr result ((asked self.new ≡ after (writes slot piece.now None) (asked self.old))
+            ⊎ ((0 < length piece.now) × (asked self.new ≡ after (writes slot piece.now (Some 0)) (asked self.old)))) }
     {
-        let Some(file) = self.writing[slot as usize] else {
-            unreachable!();
-        };
-        match self.system.write(file.number, piece) {
+        match self.system.write(slot, piece) {
             Ok(0) if !piece.is_empty() => Err(self.write_faults.rise()),
             Ok(count) => Ok(count),
             Err(Failed) => Err(self.write_faults.rise()),
@@ -194,17 +206,14 @@ impl<S: System + Drop> Desk for RealDesk<S> {
         ensures ok { OnOk result (Reaches (closed slot) (⟦<RealDesk<S> as Asks>⟧.shown self.old) (⟦<RealDesk<S> as Asks>⟧.shown self.new)) }
         ensures failed { OnErr result (FailsToWrite same (⟦<RealDesk<S> as Asks>⟧.shown self.old) (⟦<RealDesk<S> as Asks>⟧.shown self.new)) }
         ensures steady { IsSteady (⟦<RealDesk<S> as Asks>⟧.shown self.old) → OnErr result ⊥ }
-        // On success the system had synced the slot's file, and it is closed.
-        ensures synced { let asked = ⟦<RealDesk<S> as Asks>⟧.asked in OnOk result (asked self.new ≡ after_close slot (asked self.old)) }
+        // On success the system had synced the slot's file.
+        ensures synced { let asked = ⟦<RealDesk<S> as Asks>⟧.asked in OnOk result (asked self.new ≡ after (syncs slot (Some tt)) (asked self.old)) }
         // It fails iff the system did not sync the file.
-        ensures refused { let asked = ⟦<RealDesk<S> as Asks>⟧.asked in OnErr result (asked self.new ≡ after_sync slot None (asked self.old)) }
+        ensures refused { let asked = ⟦<RealDesk<S> as Asks>⟧.asked in OnErr result (asked self.new ≡ after (syncs slot None) (asked self.old)) }
     {
-        let Some(file) = self.writing[slot as usize] else {
-            unreachable!();
-        };
-        match self.system.sync(file.number) {
+        match self.system.sync(slot) {
             Ok(()) => {
-                self.writing[slot as usize] = None;
+                self.writing[slot as usize] = false;
                 Ok(())
             }
             // The slot stays open, as after every call that fails.
@@ -230,9 +239,11 @@ impl<S: System + Drop> Desk for RealDesk<S> {
         }
     }
 
-    ghost open_has_file = { λ desk slot is_open. tt };
+    ghost open_has_file = { λ desk slot is_open. open_files (S.files desk.system) (S.calls desk.system) desk.writing slot desk.has_file is_open };
 
     ghost steady_tells = { λ desk steady. Prim.cc };
+
+    ghost steady_keeps = { λ desk steady. Prim.cc };
 
     ghost steady_has_room = { λ desk steady. Prim.cc };
 

@@ -37,6 +37,7 @@ use Rattle.pb_suite.proofs.Endings.{always, bare_memory, is_refused, is_unread, 
 use Rattle.pb_suite.proofs.Going.{by_both_opened, by_both_taken, by_opened, by_same, goes_fetched, goes_reading, goes_then, keeps_by, shelf_is_if, shelf_stays, Goes, KeepsShelf}
 use Rattle.pb_suite.proofs.Posed.{posed, read_first, unread_ends}
 use Rattle.pb_suite.proofs.Says.{saying_implements}
+use Rattle.pb_suite.proofs.SeenChecks.{opening_stays}
 use Rattle.pb_suite.proofs.Takings.{taken-closed, taken-drop, taken-opened}
 use Rattle.pb_suite.proofs.Texts.{both_told, told_more, told_none_of}
 
@@ -135,12 +136,12 @@ module _ (w : CheckWords) where
         (unjudged (keeps_by 3 (opened 1 w.cnf) a b (by_opened 3 1 w.cnf (omega arith)) fails.view) (shelf_stays (opened 1 w.cnf) a b (by_opened 3 1 w.cnf (omega arith)) fails)
         (unbegun_second p b (shelf_stays (opened 1 w.cnf) a b (by_opened 3 1 w.cnf (omega arith)) fails (λ shelf. IsDenoted shelf w.opb w.bound p) denoted) a fails.view two))
 
-module _ (w : CheckWords) (p : Problem) (d e : DeskState) (denoted : IfTold d (λ t. IsDenoted t.shelf w.opb w.bound p)) (both : IfTold d (HasBoth w.cnf w.proof)) where
+module _ (w : CheckWords) (p : Problem) (d e : DeskState) (kept : IsTrue e.keeps) (denoted : IfTold d (λ t. IsDenoted t.shelf w.opb w.bound p)) (both : IfTold d (HasBoth w.cnf w.proof)) where
   abbrev pub JudgedSo : Answer → Type 0
   JudgedSo answer = IfTold d (λ t. IsJudged t.shelf w answer)
 
   pub judged_so : (answer : Answer) → TakesBoth 1 2 (λ c q. Walk p c q answer) d e → JudgedSo answer
-  judged_so answer takes = by_cases d.view.told denoted both takes.texts
+  judged_so answer takes = by_cases d.view.told denoted both (takes.texts kept)
     where
       by_cases : (told : Option Told) → IfSome told (λ t. IsDenoted t.shelf w.opb w.bound p) → IfSome told (HasBoth w.cnf w.proof) → IfSome told (λ t. Walk p (t.left 1) (t.left 2) answer) → IfSome told (λ t. IsJudged t.shelf w answer)
       by_cases None denoted both walk = tt
@@ -163,7 +164,7 @@ module _ (w : CheckWords) (p : Problem) (d e : DeskState) (denoted : IfTold d (�
 
   -- a read failed, before which the answer was open
   unjudged_so : IsTrue (d.view.reading 1) → IsTrue (d.view.reading 2) → FailsBoth 1 2 (LeavesOpen p) d e → IfTold e (UnjudgedIn w e.ended e.view)
-  unjudged_so one two fails = subst (λ (v : View). IfSome v.told (UnjudgedIn w e.ended v)) (sym fails.fails.view) (by_cases d.view.told denoted both fails.told)
+  unjudged_so one two fails = subst (λ (v : View). IfSome v.told (UnjudgedIn w e.ended v)) (sym fails.fails.view) (by_cases d.view.told denoted both (fails.told kept))
     where
       after : Option Told → View
       after told = both_taken 1 2 fails.of_one fails.of_two (record d.view { told = told })
@@ -215,14 +216,14 @@ module _ {w : CheckWords} {o : CommandSpec} (checks : Checks w anything o) {a : 
   Leaves b = ((slot : ℕ) → 3 ≤ slot → b.view.reading slot ≡ false) → IfTold b (UnjudgedIn w b.ended b.view) → IsOpenIn o b
 
   -- the problem was not read, or a text behind it was not opened
-  pub before_implements : (others : List Text) → o.texts ≡ first_text w ∷ others → (d : DeskState) → Leaves d → (answer : Outcome) → StopsBefore w a d answer → Implements o a d answer
-  before_implements others first d leaves _ (not_read answer stops lacks unended) =
+  pub before_implements : (others : List Text) → o.texts ≡ first_text w ∷ others → (d : DeskState) → IsTrue d.keeps → Leaves d → (answer : Outcome) → StopsBefore w a d answer → Implements o a d answer
+  before_implements others first d kept leaves _ (not_read answer stops lacks unended) =
       unread_ends o w.opb others first w.bound (λ shelf answer is. checks.stops shelf answer tt (unread answer is)) answer stops lacks unended
       (λ keeps more. leaves (λ slot le. keeps slot (omega (arith, le)) ∙ closed.reading slot) (unread_yet w d more (keeps 1 (omega arith) ∙ closed.reading 1) (keeps 2 (omega arith) ∙ closed.reading 2)))
-  before_implements others first d leaves _ (not_opened p between read stops) =
+  before_implements others first d kept leaves _ (not_opened p between read stops) =
       let goes = goes_fetched 1 0 w.opb read.fetched.0 a between (omega arith) read.fetched.1 in
       (read_first o w.opb others first w.bound read.fetched d _
-      (unopened_implements w anything o checks p between d (posed o w.opb others first w.bound read.fetched p read.denotes) (always between (λ t. anything t.shelf) (λ t. tt))
+      (unopened_implements w anything o checks p between d (posed o w.opb others first w.bound read.fetched p (read.denotes ((opening_stays w.cnf w.proof between d stops).kept kept))) (always between (λ t. anything t.shelf) (λ t. tt))
       (goes.reading 1 (omega arith) ∙ closed.reading 1) (goes.reading 2 (omega arith) ∙ closed.reading 2) (λ keeps same_shelf. leaves (λ slot le. keeps slot le ∙ goes.reading slot (omega (arith, le)) ∙ closed.reading slot)) stops))
 
   module _ {p : Problem} {d : DeskState} (is : IsOpened w p a d) where
@@ -235,8 +236,8 @@ module _ {w : CheckWords} {o : CommandSpec} (checks : Checks w anything o) {a : 
     pub closed_behind : (slot : ℕ) → 3 ≤ slot → d.view.reading slot ≡ false
     closed_behind slot le = (opened_goes 3 (omega arith)).reading slot le ∙ closed.reading slot
 
-    pub still_posed : IfTold d (λ t. IsDenoted t.shelf w.opb w.bound p)
-    still_posed = denoted_by w.opb w.bound p a d (opened_goes 3 (omega arith)) is.read.denotes
+    pub still_posed : IsTrue d.keeps → IfTold d (λ t. IsDenoted t.shelf w.opb w.bound p)
+    still_posed kept = denoted_by w.opb w.bound p a d (opened_goes 3 (omega arith)) (is.read.denotes (is.reached.kept kept))
 
     pub cnf_is_open : IsTrue (d.view.reading 1)
     cnf_is_open = subst (λ (v : View). IsTrue (v.reading 1)) (sym is.reached.view) refl
@@ -247,10 +248,10 @@ module _ {w : CheckWords} {o : CommandSpec} (checks : Checks w anything o) {a : 
     pub opened_implements : (f : DeskState) (answer : Outcome) → Implements o d f answer → Implements o a f answer
     opened_implements f answer implements = implements_after o a d f (opened_goes (length o.texts) (omega (arith, checks.three))) answer implements
 
-    pub fault_implements : (e : DeskState) → Leaves e → (f : CheckFault) → StopsChecking p 1 2 d e f → NamesText f → (IsSteady d → f ≢ fault.ReadFault) → Implements o a e (check_refusal f)
-    fault_implements e leaves f stops names steady =
-        opened_implements e _ (stopped_implements w p d e still_posed is.found anything o checks (always d (λ t. anything t.shelf) (λ t. tt)) cnf_is_open proof_is_open (λ keeps same_shelf. leaves (λ slot le. keeps slot le ∙ closed_behind slot le)) f stops names steady)
+    pub fault_implements : (e : DeskState) → IsTrue d.keeps → IsTrue e.keeps → Leaves e → (f : CheckFault) → StopsChecking p 1 2 d e f → NamesText f → (IsSteady d → f ≢ fault.ReadFault) → Implements o a e (check_refusal f)
+    fault_implements e now kept leaves f stops names steady =
+        opened_implements e _ (stopped_implements w p d e kept (still_posed now) (is.found now) anything o checks (always d (λ t. anything t.shelf) (λ t. tt)) cnf_is_open proof_is_open (λ keeps same_shelf. leaves (λ slot le. keeps slot le ∙ closed_behind slot le)) f stops names steady)
 
-    pub denied_implements : (e : DeskState) (line : ℕ) (denied : Denied) → TakesBoth 1 2 (λ c q. Walk p c q (Ok (Rejected line denied))) d e → Implements o a e (outcome.Rejected line denied)
-    denied_implements e line denied takes =
-        opened_implements e _ (rejected_implements w p d e still_posed is.found anything o checks (always d (λ t. anything t.shelf) (λ t. tt)) line denied takes)
+    pub denied_implements : (e : DeskState) → IsTrue d.keeps → IsTrue e.keeps → (line : ℕ) (denied : Denied) → TakesBoth 1 2 (λ c q. Walk p c q (Ok (Rejected line denied))) d e → Implements o a e (outcome.Rejected line denied)
+    denied_implements e now kept line denied takes =
+        opened_implements e _ (rejected_implements w p d e kept (still_posed now) (is.found now) anything o checks (always d (λ t. anything t.shelf) (λ t. tt)) line denied takes)

@@ -1,6 +1,6 @@
 -- Opening a text and reading it.
-use Rattle.std.proofs.Common.{◌≡◌, ◌≤◌, ℕ, List, [], Option, Some, None, length, refl, subst}
-use Rattle.std.specs.Prelude.{IfOk, IfSome, IsSome, Result}
+use Rattle.std.proofs.Common.{◌≡◌, ◌≤◌, ℕ, List, [], Option, Some, None, ap, length, refl, subst, sym, ◌∙◌}
+use Rattle.std.specs.Prelude.{IfOk, IfSome, IsSome, IsTrue, Result}
 use Rattle.std.specs.Option.{unwrap_or}
 use Rattle.std.specs.declared.result.Result.TheVariants.{Ok, Err}
 use Rattle.pb_base.specs.declared.file.File.{File}
@@ -12,6 +12,7 @@ use Rattle.pb_suite.specs.declared.outcome.Outcome.{Outcome}
 use Rattle.pb_suite.specs.inner.Runs.{fetched, Fetches, FetchesPart, StopsFetching, StopsReading}
 use Rattle.pb_suite.specs.inner.Runs.StopsFetching.{in_text}
 use Rattle.pb_suite.specs.inner.Runs.StopsReading.{not_read, no_memory, refused}
+use Rattle.pb_suite.proofs.Opened.{some_is}
 use Rattle.pb_suite.proofs.Texts.{told_more}
 
 -- what refuses a text by one relation refuses it by a weaker one
@@ -34,10 +35,10 @@ module _ (slot : ℕ) (name : List ℕ) (a b d : DeskState) (opens : Reads (open
   whole_fetched (Err e) takes = tt
 
   -- of the bytes that the file has
-  pub part_fetched : (count : ℕ) → Advances slot count b d → IfTold a (λ t. IsSome (t.shelf name)) → FetchesPart slot name count a d
-  part_fetched count takes found = record {
+  pub part_fetched : (count : ℕ) → IsTrue d.keeps → Advances slot count b d → IfTold a (λ t. IsSome (t.shelf name)) → FetchesPart slot name count a d
+  part_fetched count keeps takes found = record {
     reached = fetched_by count takes.reached;
-    on_shelf = by_cases a.view.told found (subst (λ (v : View). IfSome v.told (λ t. count ≤ length (t.left slot))) opens.view takes.were_left);
+    on_shelf = by_cases a.view.told found (subst (λ (v : View). IfSome v.told (λ t. count ≤ length (t.left slot))) opens.view (takes.were_left keeps));
   }
     where
       by_text : (o : Option (List ℕ)) → IsSome o → count ≤ length (unwrap_or o []) → (text : List ℕ) × (o ≡ Some text) × (count ≤ length text)
@@ -47,3 +48,11 @@ module _ (slot : ℕ) (name : List ℕ) (a b d : DeskState) (opens : Reads (open
       by_cases : (told : Option Told) → IfSome told (λ t. IsSome (t.shelf name)) → IfSome (opened slot name (record a.view { told = told })).told (λ t. count ≤ length (t.left slot)) → IfSome told (λ t. (text : List ℕ) × (t.shelf name ≡ Some text) × (count ≤ length text))
       by_cases None found le = tt
       by_cases (Some t) found le = by_text (t.shelf name) found (subst (λ (xs : List ℕ). count ≤ length xs) (put-same t.left slot (unwrap_or (t.shelf name) [])) le)
+
+  -- the whole text
+  pub text_fetched : (text : List ℕ) → IfTold a (λ t. IsSome (t.shelf name)) → IfTold b (λ t. text ≡ t.left slot) → IfTold a (λ t. t.shelf name ≡ Some text)
+  text_fetched text found whole = by_cases a.view.told found (subst (λ (v : View). IfSome v.told (λ t. text ≡ t.left slot)) opens.view whole)
+    where
+      by_cases : (told : Option Told) → IfSome told (λ t. IsSome (t.shelf name)) → IfSome (opened slot name (record a.view { told = told })).told (λ t. text ≡ t.left slot) → IfSome told (λ t. t.shelf name ≡ Some text)
+      by_cases None found whole = tt
+      by_cases (Some t) found whole = some_is (t.shelf name) found ∙ ap Some (sym (whole ∙ put-same t.left slot (unwrap_or (t.shelf name) [])))

@@ -5,9 +5,10 @@ use Rattle.pb_desk.specs.Desk.{DeskState, IsClosed}
 use Rattle.pb_words.specs.Parsed.{Wanted, parsed_of}
 use Rattle.pb_suite.specs.declared.outcome.Outcome.{Outcome}
 use Rattle.pb_suite.specs.declared.outcome.Outcome.TheVariants as outcome
-use Rattle.pb_suite.specs.Implementing.{Answers, IsRefusal, Implements}
+use Rattle.pb_suite.specs.Implementing.{Answers, Counts, IsQuiet, IsRefusal, Implements}
 use Rattle.pb_suite.specs.Implementing.Answers.{done, refused, read_fault, write_fault, no_memory}
 use Rattle.pb_suite.specs.CommandSpec.{CommandSpec}
+use Rattle.pb_suite.specs.Seen.{seen_from}
 use Rattle.pb_suite.proofs.Endings.{bare_memory}
 use Rattle.pb_suite.proofs.Going.{stays}
 
@@ -27,6 +28,26 @@ module _ (o : CommandSpec) (a b : DeskState) where
   all_ended closed _ (read_fault adds) e slot = cc
   all_ended closed _ (write_fault out part adds) e slot = cc
   all_ended closed _ (no_memory out part adds held) e slot = cc
+
+-- ---- of a desk that is seen from its end, whose counts are not hidden
+
+module _ (a d : DeskState) where
+  quiet_so : IsQuiet (seen_from d a) (seen_from d d) → IsQuiet a d
+  quiet_so quiet = record { reads = quiet.reads; writes = quiet.writes }
+
+  pub counts_so : (answer : Outcome) → Counts (seen_from d a) (seen_from d d) answer → Counts a d answer
+  counts_so outcome.Done counts = quiet_so counts
+  counts_so (outcome.Refused file place expected) counts = quiet_so counts
+  counts_so outcome.Usage counts = quiet_so counts
+  counts_so (outcome.Limit file which place) counts = quiet_so counts
+  counts_so outcome.ReadFault counts = counts
+  counts_so outcome.WriteFault counts = counts
+  counts_so outcome.NoMemory counts = counts
+  counts_so (outcome.Rejected line denied) counts = quiet_so counts
+  counts_so (outcome.NotASolution statement) counts = quiet_so counts
+  counts_so outcome.NoModel counts = quiet_so counts
+  counts_so outcome.NoObjective counts = quiet_so counts
+  counts_so (outcome.NotRefuted line why) counts = quiet_so counts
 
 -- ---- of the command of the words
 

@@ -1,5 +1,6 @@
 -- Texts behind a problem's are opened only where there is a problem.
 use Rattle.std.proofs.Common.{◌≡◌, ◌≤◌, ◌<◌, ◌∙◌, arith, ℕ, ℤ, false, List, Option, Some, None, length, refl, sym}
+use Rattle.std.specs.Prelude.{IsTrue}
 use Rattle.std.proofs.lemmas.Bool.{true≢false}
 use Rattle.pb_base.specs.declared.file.File.{File}
 use Rattle.pb_base.specs.declared.problem.Problem.{Problem}
@@ -18,6 +19,7 @@ use Rattle.pb_suite.specs.inner.Runs.{fetched, HasText, KeepsReading, StopsReadi
 use Rattle.pb_suite.specs.inner.Runs.StopsFetching.{not_open, in_text}
 use Rattle.pb_suite.specs.inner.Runs.StopsReading.{not_read, no_memory, refused}
 use Rattle.pb_suite.proofs.Going.{by_reading, by_same, goes_fetched, keeps_by}
+use Rattle.pb_suite.proofs.SeenChecks.{opening_stays}
 use Rattle.pb_suite.proofs.Texts.{told_more}
 
 -- a slot behind the first is closed where that alone was opened
@@ -49,9 +51,9 @@ module _ (name : List ℕ) (bound : Option ℤ) (a d : DeskState) where
   unread_behind file P answer closed stops = none_behind closed (reading_keeps file P answer stops)
 
 -- the problem of a check was not read, or a text behind it was not opened
-pub before_behind : (w : CheckWords) (a d : DeskState) (answer : Outcome) → IsClosed a → StopsBefore w a d answer → OpensBehind w.opb w.bound a d
-before_behind w a d _ closed (not_read_first answer stops lacks unended) = unread_behind w.opb w.bound a d _ _ answer closed stops
-before_behind w a d _ closed (not_opened p between read stops) = posed_behind w.opb w.bound a d p read.denotes
+pub before_behind : (w : CheckWords) (a d : DeskState) → IsTrue d.keeps → (answer : Outcome) → IsClosed a → StopsBefore w a d answer → OpensBehind w.opb w.bound a d
+before_behind w a d kept _ closed (not_read_first answer stops lacks unended) = unread_behind w.opb w.bound a d _ _ answer closed stops
+before_behind w a d kept _ closed (not_opened p between read stops) = posed_behind w.opb w.bound a d p (read.denotes ((opening_stays w.cnf w.proof between d stops).kept kept))
 
 -- where nothing is open
 pub closed_in_turn : (w : Wanted) (a : DeskState) → IsClosed a → OpensInTurn w a a

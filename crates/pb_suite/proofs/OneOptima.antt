@@ -8,7 +8,6 @@ use Rattle.pb_model.specs.declared.model.Model.{Model}
 use Rattle.pb_model.specs.SolutionText.{optimum_text}
 use Rattle.pb_words.specs.OptimumWords.{OptimumWords}
 use Rattle.pb_suite.specs.declared.outcome.Outcome.{Outcome}
-use Rattle.pb_suite.specs.declared.outcome.Outcome.TheVariants as outcome
 use Rattle.pb_suite.specs.CommandSpec.{Shelf}
 use Rattle.pb_suite.specs.DecodeSpec.{StopsDecode}
 use Rattle.pb_suite.specs.DecodeSpec.StopsDecode.{unread as no_problem}

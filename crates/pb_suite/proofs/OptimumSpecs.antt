@@ -31,6 +31,7 @@ use Rattle.pb_suite.specs.Refusals.{RefusesModel}
 use Rattle.pb_suite.specs.Refusals.IsUnread.{lacks as absent, refuses as refusal}
 use Rattle.pb_suite.specs.Refusals.RefusesOpb.{heavy}
 use Rattle.pb_suite.specs.RefuteSpec.StopsRefute.{unchecked}
+use Rattle.pb_suite.specs.Seen.{seen_from}
 use Rattle.pb_suite.specs.inner.Opening.{opened_both, HasBoth, StopsOpening}
 use Rattle.pb_suite.specs.inner.Optima.{HasFree, IsAimedAt}
 use Rattle.pb_suite.specs.inner.Refuting.{EndsRefuting}
@@ -45,6 +46,7 @@ use Rattle.pb_suite.proofs.Endings.{always, bare_memory, is_refused}
 use Rattle.pb_suite.proofs.Going.{by_both_opened, goes_reading, shelf_is_if, stays, Goes}
 use Rattle.pb_suite.proofs.Refused.{reading_ends}
 use Rattle.pb_suite.proofs.RefuteSpecs.{refuting_implements, unfollowed, Refutation}
+use Rattle.pb_suite.proofs.SeenLemmas.{reading_seen}
 use Rattle.pb_suite.proofs.Takings.{taken-closed}
 use Rattle.pb_suite.proofs.Texts.{both_told, told_more, told_none_of}
 
@@ -59,6 +61,10 @@ free_read name count a b closed is = record {
   proof = ap (λ (v : View). v.reading 2) is ∙ closed.reading 2;
   lrat = ap (λ (v : View). v.reading 3) is ∙ closed.reading 3;
 }
+
+-- they are so of the desk as it is seen from a later state
+pub free_seen : (a d : DeskState) → HasFree a → HasFree (seen_from d a)
+free_seen a d free = record { cnf = reading_seen 1 a d free.cnf; proof = reading_seen 2 a d free.proof; lrat = reading_seen 3 a d free.lrat }
 
 -- and stay so where another was opened and read
 pub free_fetched : (name : List ℕ) (count : ℕ) (b d : DeskState) → d.view ≡ fetched 4 name count b.view → HasFree b → HasFree d
@@ -220,10 +226,10 @@ module _ (w : OptimumWords) (p : Problem) (m : Model) where
           (λ keeps shelf unjudged. unfollowed r (optimum_text p m.values) Known (optimum_spec w) refutes_better d (keeps 3 (omega arith) ∙ free.lrat) (shelf Known reached) unjudged) stops
 
       -- both were, and then all is gone through
-      pub opened_implements : (d e : DeskState) (answer : Outcome) → HasFree a → Reads (opened_both w.cnf w.proof) a d → IfTold d (HasBoth w.cnf w.proof) → EndsRefuting q w.lrat (optimum_text p m.values) d e answer → Implements (optimum_spec w) a e answer
-      opened_implements d e answer free far both ends =
+      pub opened_implements : (d e : DeskState) → IsTrue e.keeps → (answer : Outcome) → HasFree a → Reads (opened_both w.cnf w.proof) a d → IfTold d (HasBoth w.cnf w.proof) → EndsRefuting q w.lrat (optimum_text p m.values) d e answer → Implements (optimum_spec w) a e answer
+      opened_implements d e kept answer free far both ends =
           let goes : Goes 5 nothing a d = goes_reading 5 nothing (opened_both w.cnf w.proof) a d (by_both_opened 5 w.cnf w.proof (omega arith)) far in
           implements_after (optimum_spec w) a d e goes answer
-          (refuting_implements (refuting_of w (next_below p m)) (optimum_text p m.values) (λ shelf. IsReached shelf w p m) (optimum_spec w) refutes_better q d e answer
+          (refuting_implements (refuting_of w (next_below p m)) (optimum_text p m.values) (λ shelf. IsReached shelf w p m) (optimum_spec w) refutes_better q d e kept answer
           (shelf_is_if a d goes (λ shelf. IsDenoted shelf w.opb (Some (next_below p m)) q) posed) both (shelf_is_if a d goes (λ shelf. IsReached shelf w p m) reached)
           (subst (λ (v : View). IsTrue (v.reading 1)) (sym far.view) refl) (subst (λ (v : View). IsTrue (v.reading 2)) (sym far.view) refl) (ap (λ (v : View). v.reading 3) far.view ∙ free.lrat) ends)

@@ -40,6 +40,8 @@ use Rattle.pb_suite.proofs.Endings.{bare_memory, is_refused, is_unread, IsOpenIn
 use Rattle.pb_suite.proofs.Going.{by_opened, by_same, by_taken, goes_reading, shelf_is_if, Goes}
 use Rattle.pb_suite.proofs.CheckSpecs.{anything, cnf_text, goes_both, proof_text, rejected_implements, stopped_implements, Checks, UnjudgedIn}
 use Rattle.pb_suite.proofs.Says.{saying_implements}
+use Rattle.pb_suite.proofs.SeenChecks.{following_stays, lrat_stays}
+use Rattle.pb_suite.proofs.SeenSteps.{said_stays}
 use Rattle.pb_suite.proofs.Takings.{stands_whole, taken-closed, taken-on}
 use Rattle.pb_suite.proofs.Texts.{both_told, told_more, told_none_of}
 
@@ -82,9 +84,9 @@ module _ (w : RefuteWords) where
   }
 
 -- what was kept of the CNF are the clauses of the texts that were judged
-pub accepted_so : (w : RefuteWords) (p : Problem) (vars : ℕ) (clauses : List (List Lit)) (d e : DeskState) → IfTold d (λ t. IsDenoted t.shelf w.checked.opb w.checked.bound p) → IfTold d (HasBoth w.checked.cnf w.checked.proof) → TakesBoth 1 2 (λ c q. Walk p c q (Ok Accepted)) d e
+pub accepted_so : (w : RefuteWords) (p : Problem) (vars : ℕ) (clauses : List (List Lit)) (d e : DeskState) → IsTrue e.keeps → IfTold d (λ t. IsDenoted t.shelf w.checked.opb w.checked.bound p) → IfTold d (HasBoth w.checked.cnf w.checked.proof) → TakesBoth 1 2 (λ c q. Walk p c q (Ok Accepted)) d e
     → IfTold d (λ t. SaysClauses (t.left 1) vars clauses) → IfTold d (λ t. IsAccepted t.shelf w vars clauses)
-accepted_so w p vars clauses d e denoted both takes says = by_cases d.view.told denoted both takes.texts says
+accepted_so w p vars clauses d e kept denoted both takes says = by_cases d.view.told denoted both (takes.texts kept) says
   where
     by_cases : (told : Option Told) → IfSome told (λ t. IsDenoted t.shelf w.checked.opb w.checked.bound p) → IfSome told (HasBoth w.checked.cnf w.checked.proof) → IfSome told (λ t. Walk p (t.left 1) (t.left 2) (Ok Accepted)) → IfSome told (λ t. SaysClauses (t.left 1) vars clauses)
         → IfSome told (λ t. IsAccepted t.shelf w vars clauses)
@@ -123,7 +125,7 @@ module _ (w : RefuteWords) (line : List ℕ) (Known : Shelf → Type 0) (o : Com
         (told_more a (λ t. AcceptedIn t.shelf) (λ t. o.leaves_open t.shelf (taken_in a.view t) b.ended)
         (λ t is. r.leaves t.shelf (taken_in a.view t) b.ended is.1 (inr (vars, clauses, is.0, subst (λ (x : Option (List ℕ)). TakesEnded (started vars clauses) (unwrap_or x [])) (sym (taken-closed a.view t 3 w.lrat free)) refl))) accepted_known))
 
-    module _ (b d : DeskState) (reached : Reads (opened 3 w.lrat) a b) (found : IfTold a (λ t. IsSome (t.shelf w.lrat))) where
+    module _ (b d : DeskState) (kept : IsTrue d.keeps) (reached : Reads (opened 3 w.lrat) a b) (found : IfTold a (λ t. IsSome (t.shelf w.lrat))) where
       open_goes : Goes (length o.texts) nothing a b
       open_goes = goes_reading (length o.texts) nothing (opened 3 w.lrat) a b (by_opened (length o.texts) 3 w.lrat (omega (arith, r.four))) reached
 
@@ -134,7 +136,7 @@ module _ (w : RefuteWords) (line : List ℕ) (Known : Shelf → Type 0) (o : Com
       there = shelf_is_if a b open_goes AcceptedIn accepted_known
 
       followed : (end : LratEnding) → TakesText 3 (λ text. lrat_walk vars clauses text ≡ end) b d → IfTold b (λ t. IsFollowed t.shelf w end × Known t.shelf)
-      followed end takes = by_cases b.view.told there (stands_whole 3 w.lrat a b reached.view found) takes.text
+      followed end takes = by_cases b.view.told there (stands_whole 3 w.lrat a b reached.view found) (takes.text kept)
         where
           by_cases : (told : Option Told) → IfSome told (λ t. AcceptedIn t.shelf) → IfSome told (λ t. t.shelf w.lrat ≡ Some (t.left 3)) → IfSome told (λ t. lrat_walk vars clauses (t.left 3) ≡ end) → IfSome told (λ t. IsFollowed t.shelf w end × Known t.shelf)
           by_cases None is has ends = tt
@@ -146,7 +148,7 @@ module _ (w : RefuteWords) (line : List ℕ) (Known : Shelf → Type 0) (o : Com
           told_more d (λ t. AcceptedIn t.shelf × TakesEnded (started vars clauses) (unwrap_or (taken_in d.view t 3 w.lrat) [])) (λ t. o.leaves_open t.shelf (taken_in d.view t) d.ended) (λ t is. r.leaves t.shelf (taken_in d.view t) d.ended is.0.1 (inr (vars, clauses, is.0.0, is.1)))
           (taken-on 3 stops.count w.lrat (λ shelf bytes. AcceptedIn shelf × TakesEnded (started vars clauses) (unwrap_or bytes [])) b d (subst (λ (v : View). IsTrue (v.reading 3)) (sym reached.view) refl) (stands_whole 3 w.lrat a b reached.view found) stops.fails.view
           (both_told b (λ t. AcceptedIn t.shelf) (λ t. (stops.count ≤ length (t.left 3)) × TakesEnded (started vars clauses) (take stops.count (t.left 3))) (λ t. AcceptedIn t.shelf × TakesEnded (started vars clauses) (take stops.count (t.left 3)))
-          (λ t is ended. (is, ended.1)) there stops.told))
+          (λ t is ended. (is, ended.1)) there (stops.told kept)))
 
       unrefuted_so : (end : LratEnding) (answer : Outcome) → ((shelf : Shelf) → IsFollowed shelf w end → StopsRefute shelf w answer) → TakesText 3 (λ text. lrat_walk vars clauses text ≡ end) b d → IfTold b (λ t. o.stops t.shelf answer)
       unrefuted_so end answer stopping takes = told_more b (λ t. IsFollowed t.shelf w end × Known t.shelf) (λ t. o.stops t.shelf answer) (λ t is. r.stops t.shelf answer is.1 (stopping t.shelf is.0)) (followed end takes)
@@ -171,20 +173,23 @@ module _ (w : RefuteWords) (line : List ℕ) (Known : Shelf → Type 0) (o : Com
       after_saying e tells takes answer ends =
           implements_after o a b e open_goes answer (implements_after o b d e (text_goes _ takes) answer (saying_implements o line d e tells (refuted_due takes) answer ends))
 
-    pub following_implements : (e : DeskState) (answer : Outcome) → a.view.reading 3 ≡ false → EndsFollowing vars clauses w.lrat line a e answer → Implements o a e answer
-    following_implements e _ free (not_opened fails lacks) = no_lrat e fails lacks free
-    following_implements e _ free (stopped b reached found f stops steady) = after_ending b e reached found f stops steady
-    following_implements e answer free (said b d _ reached found takes tells ends) = after_saying b d reached found e tells takes answer ends
+    pub following_implements : (e : DeskState) → IsTrue e.keeps → (answer : Outcome) → a.view.reading 3 ≡ false → EndsFollowing vars clauses w.lrat line a e answer → Implements o a e answer
+    following_implements e kept _ free (not_opened fails lacks) = no_lrat e fails lacks free
+    following_implements e kept _ free (stopped b reached found f stops steady) = after_ending b e kept reached (found ((lrat_stays vars clauses b e f stops).kept kept)) f stops steady
+    following_implements e kept answer free (said b d _ reached found takes tells ends) =
+        let still = (said_stays line d e answer ends).kept kept in
+        after_saying b d still reached (found (takes.takes.reached.kept still)) e tells takes answer ends
 
   -- ---- from where both texts were opened
 
-  pub refuting_implements : (p : Problem) (d e : DeskState) (answer : Outcome) → IfTold d (λ t. IsDenoted t.shelf w.checked.opb w.checked.bound p) → IfTold d (HasBoth w.checked.cnf w.checked.proof) → IfTold d (λ t. Known t.shelf)
+  pub refuting_implements : (p : Problem) (d e : DeskState) → IsTrue e.keeps → (answer : Outcome) → IfTold d (λ t. IsDenoted t.shelf w.checked.opb w.checked.bound p) → IfTold d (HasBoth w.checked.cnf w.checked.proof) → IfTold d (λ t. Known t.shelf)
       → IsTrue (d.view.reading 1) → IsTrue (d.view.reading 2) → d.view.reading 3 ≡ false → EndsRefuting p w.lrat line d e answer → Implements o d e answer
-  refuting_implements p d e _ denoted both known one two free (unchecked_so f stops names steady) =
-      stopped_implements w.checked p d e denoted both Known o r.checks known one two (λ keeps shelf unjudged. unfollowed e (keeps 3 (omega arith) ∙ free) (shelf Known known) unjudged) f stops names steady
-  refuting_implements p d e _ denoted both known one two free (rejected number denied takes) = rejected_implements w.checked p d e denoted both Known o r.checks known number denied takes
-  refuting_implements p d e answer denoted both known one two free (accepted_then b vars clauses _ takes says ends) =
-      let goes = goes_both w.checked p d b denoted both (length o.texts) _ takes in
+  refuting_implements p d e kept _ denoted both known one two free (unchecked_so f stops names steady) =
+      stopped_implements w.checked p d e kept denoted both Known o r.checks known one two (λ keeps shelf unjudged. unfollowed e (keeps 3 (omega arith) ∙ free) (shelf Known known) unjudged) f stops names steady
+  refuting_implements p d e kept _ denoted both known one two free (rejected number denied takes) = rejected_implements w.checked p d e kept denoted both Known o r.checks known number denied takes
+  refuting_implements p d e kept answer denoted both known one two free (accepted_then b vars clauses _ takes says ends) =
+      let still = (following_stays vars clauses w.lrat line b e answer ends).kept kept in
+      let goes = goes_both w.checked p d b still denoted both (length o.texts) _ takes in
       implements_after o d b e goes answer
-      (following_implements vars clauses b (shelf_is_if d b goes Known known) (shelf_is_if d b goes (λ shelf. IsAccepted shelf w vars clauses) (accepted_so w p vars clauses d b denoted both takes says))
-      e answer (ap (λ (v : View). v.reading 3) takes.reached.view ∙ free) ends)
+      (following_implements vars clauses b (shelf_is_if d b goes Known known) (shelf_is_if d b goes (λ shelf. IsAccepted shelf w vars clauses) (accepted_so w p vars clauses d b still denoted both takes (says still)))
+      e kept answer (ap (λ (v : View). v.reading 3) takes.reached.view ∙ free) ends)

@@ -1,9 +1,10 @@
 //! Opening a CNF and its derivation.
 ghost use Rattle.std.specs.Prelude.{◌≡◌, false, IfErr, IfOk, OnOk, OnErr};
 ghost use Rattle.pb_base.specs.Problems.{IsWithinLimits};
-ghost use Rattle.pb_desk.specs.Desk.{IfTold, IsClosed, Reads};
+ghost use Rattle.pb_desk.specs.Desk.{IfKept, IsClosed, Reads};
 ghost use Rattle.pb_words.specs.CheckWords.{as_check_words};
 ghost use Rattle.pb_suite.specs.inner.Opening.{opened_both, HasBoth, IsOpened, StopsBefore, StopsOpening};
+ghost use Rattle.pb_suite.specs.Seen.{seen_from, Stays};
 
 use crate::outcome::Outcome;
 use crate::reading::read_problem;
@@ -19,7 +20,7 @@ pub fn open_both<D: Desk>(cnf: &str, proof: &str, desk: &mut D) -> Result<(), Fa
     ensures opened { OnOk result (Reads (opened_both cnf.now proof.now) (D.state desk.old) (D.state desk.new)) }
     ensures cnf_begun { OnOk result ((D.state desk.new).ended 1 ≡ false) }
     ensures proof_begun { OnOk result ((D.state desk.new).ended 2 ≡ false) }
-    ensures found { OnOk result (IfTold (D.state desk.new) (HasBoth cnf.now proof.now)) }
+    ensures found { OnOk result (IfKept (D.state desk.new) (D.state desk.new) (HasBoth cnf.now proof.now)) }
     ensures failed { OnErr result (StopsOpening cnf.now proof.now (D.state desk.old) (D.state desk.new)) }
 {
     desk.open(1, cnf)?;
@@ -34,9 +35,10 @@ pub fn open_checked<D: Desk>(
     desk: &mut D,
 ) -> Result<Problem, Outcome>
     requires closed { IsClosed (D.state desk.old) }
+    ensures stays { Stays (D.state desk.old) (D.state desk.new) }
     ensures within { IfOk result IsWithinLimits }
     ensures opened { IfOk result (λ p. IsOpened (as_check_words asked.now) p (D.state desk.old) (D.state desk.new)) }
-    ensures stopped { IfErr result (StopsBefore (as_check_words asked.now) (D.state desk.old) (D.state desk.new)) }
+    ensures stopped { let new = D.state desk.new in IfErr result (StopsBefore (as_check_words asked.now) (seen_from new (D.state desk.old)) (seen_from new new)) }
 {
     let problem = match read_problem(alloc, asked.opb, asked.bound, desk) {
         Ok(problem) => problem,

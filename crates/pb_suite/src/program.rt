@@ -3,6 +3,7 @@ ghost use Rattle.std.specs.Prelude.{◌≡◌, ℕ, false};
 ghost use Rattle.std.specs.Process.{exit_status};
 ghost use Rattle.pb_desk.specs.Desk.{IsClosed};
 ghost use Rattle.pb_suite.specs.Programs.{AnswersSome, Exits};
+ghost use Rattle.pb_suite.specs.Seen.{Stays};
 
 use crate::diagnostics::{Diagnostics, tell};
 use crate::outcome::Outcome;
@@ -16,6 +17,7 @@ use std::{env, io};
 fn run_given<R: Env + AllocGlobal, D: Desk>(rt: &R, desk: &mut D) -> Outcome
     requires closed { IsClosed (D.state desk.old) }
     ensures answers { AnswersSome (D.state desk.old) (D.state desk.new) result }
+    ensures stays { Stays (D.state desk.old) (D.state desk.new) }
     ensures ended { result ≡ Outcome.Done → (slot : ℕ) → (D.state desk.new).view.writing slot ≡ false }
 {
     let alloc = rt.alloc();
@@ -41,6 +43,8 @@ pub fn run_program<R: Env + AllocGlobal, D: Desk, E: Diagnostics>(
     // The exit status and the line that is told are those of what some words ask for, done as it is specified; or of words that ask
     // for nothing or were not to be had, and then the desk is left alone.
     ensures exits { Exits (D.state desk.old) (D.state desk.new) (E.told diagnostics.old) (E.told diagnostics.new) (exit_status result) }
+    // The desk is as steady as it was; and it has kept to what it tells from the start, if it does at the end.
+    ensures stays { Stays (D.state desk.old) (D.state desk.new) }
     // Where it is 0, all that was made is closed.
     ensures ended { exit_status result ≡ 0 → (slot : ℕ) → (D.state desk.new).view.writing slot ≡ false }
 {

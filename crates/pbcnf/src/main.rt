@@ -1,8 +1,11 @@
 //! The program: a run over the system's files.
 #![tactic(auto)]
 
+mod over_files;
+
+use over_files::run_over;
 use pb_files::{Host, RealDesk};
-use pb_suite::{Diagnostics, run_program};
+use pb_suite::Diagnostics;
 use std::fmt::Display;
 use std::process::ExitCode;
 
@@ -26,5 +29,5 @@ impl<R: Eprint> Diagnostics for StandardError<'_, R> {
 fn main(rt: HostRuntime) -> ExitCode {
     // Before all else, since it takes the numbers of standard streams that are closed.
     let mut desk = RealDesk::new(Host::new(&rt));
-    run_program(&rt, &mut desk, &mut StandardError { system: &rt })
+    run_over(&rt, &mut desk, &mut StandardError { system: &rt })
 }

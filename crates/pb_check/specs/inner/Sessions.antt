@@ -1,7 +1,7 @@
 -- What checking says of both readers and of the clauses that are kept, in a session.
 use Rattle.std.specs.Prelude.{◌≡◌, ℕ, List, [], Option}
 use Rattle.pb_base.specs.declared.literal.Lit.{Lit}
-use Rattle.pb_desk.specs.Desk.{DeskState, IfTold}
+use Rattle.pb_desk.specs.Desk.{DeskState, IfKept}
 use Rattle.pb_dimacs.specs.CnfReaders.{new_reader}
 use Rattle.pb_steps.specs.Database.{Database}
 use Rattle.pb_check.specs.KeptClauses.{SaysClauses}
@@ -47,5 +47,5 @@ abbrev pub StopsChecking : CheckFault → ℕ → Database → Session → Sessi
 StopsChecking fault loaded db s s' a b = StopsLines fault loaded s.cnf db s.lines s'.cnf s'.lines a b
 
 -- where the derivation is accepted, these are the clauses of the text in a slot
-abbrev pub SaysKept : Verdict → ℕ → ℕ → List (List Lit) → DeskState → Type 0
-SaysKept v slot vars clauses a = v ≡ Accepted → IfTold a (λ t. SaysClauses (t.left slot) vars clauses)
+abbrev pub SaysKept : Verdict → ℕ → ℕ → List (List Lit) → DeskState → DeskState → Type 0
+SaysKept v slot vars clauses a b = v ≡ Accepted → IfKept a b (λ t. SaysClauses (t.left slot) vars clauses)

@@ -9,6 +9,10 @@ pub memory_tells : (desk : MemoryDesk) → IsSome (state_of desk).view.told
 unfolding state_of
 memory_tells desk = refl
 
+pub memory_keeps : (desk : MemoryDesk) → IsTrue (state_of desk).keeps
+unfolding state_of
+memory_keeps desk = refl
+
 pub memory_has_room : (desk : MemoryDesk) → IsSome (state_of desk).view.room
 unfolding state_of
 memory_has_room desk = refl

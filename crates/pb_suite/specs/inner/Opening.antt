@@ -1,9 +1,9 @@
 -- How opening a CNF and its derivation ends, and the same behind the problem of a check. It serves proofs.
-use Rattle.std.specs.Prelude.{ℕ, ◌≡◌, false, List, Some, IsNone}
+use Rattle.std.specs.Prelude.{ℕ, ◌≡◌, false, List, Some, IsNone, IsTrue}
 use Rattle.pb_base.specs.declared.file.File.TheVariants.{Opb}
 use Rattle.pb_base.specs.declared.problem.Problem.{Problem}
 use Rattle.pb_desk.specs.View.{Told, View, opened}
-use Rattle.pb_desk.specs.Desk.{DeskState, FailsToRead, IfTold, IsSteady, IsTold, Reads, same}
+use Rattle.pb_desk.specs.Desk.{DeskState, FailsToRead, IfKept, IsSteady, IsTold, Reads, same}
 use Rattle.pb_words.specs.CheckWords.{CheckWords}
 use Rattle.pb_suite.specs.declared.outcome.Outcome.{Outcome}
 use Rattle.pb_suite.specs.declared.outcome.Outcome.TheVariants as outcome
@@ -27,7 +27,7 @@ pub data StopsOpening (cnf proof : List ℕ) (old new : DeskState) : Type 0 wher
 -- the problem of a check was read
 pub record IsRead (w : CheckWords) (p : Problem) (old new : DeskState) : Type 0 where
   pub fetched : (count : ℕ) × Fetches 0 w.opb count old new
-  pub denotes : HasText w.opb (λ text. Denotes w.bound text p) old
+  pub denotes : IsTrue new.keeps → HasText w.opb (λ text. Denotes w.bound text p) old
 
 -- and then both texts were opened
 pub record IsOpened (w : CheckWords) (p : Problem) (old new : DeskState) : Type 0 where
@@ -36,7 +36,7 @@ pub record IsOpened (w : CheckWords) (p : Problem) (old new : DeskState) : Type 
   pub reached : Reads (opened_both w.cnf w.proof) between new
   pub cnf_begun : new.ended 1 ≡ false
   pub proof_begun : new.ended 2 ≡ false
-  pub found : IfTold new (HasBoth w.cnf w.proof)
+  pub found : IfKept new new (HasBoth w.cnf w.proof)
 
 -- the problem was not read; or it was, and then one of the texts was not opened
 pub data StopsBefore (w : CheckWords) (old new : DeskState) : Outcome → Type 0 where

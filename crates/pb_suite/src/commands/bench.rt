@@ -8,6 +8,7 @@ ghost use Rattle.pb_words.specs.BenchWords.{as_bench_words};
 ghost use Rattle.pb_words.specs.inner.Fit.{IsFitBench};
 ghost use Rattle.pb_suite.specs.Implementing.{Implements};
 ghost use Rattle.pb_suite.specs.BenchSpec.{bench_spec};
+ghost use Rattle.pb_suite.specs.Seen.{seen_from, Stays};
 
 use crate::outcome::Outcome;
 use crate::storing::{say_summary, store};
@@ -47,7 +48,8 @@ fn store_generated<D: Desk>(
     requires within { IsWithinLimits problem.now }
     requires reads { Reads (generated asked.now.count asked.now.seed) problem.now }
     requires named { (as_bench_words asked.now).cnf ≡ Some name.now }
-    ensures { Implements (bench_spec (as_bench_words asked.now)) (D.state desk.old) (D.state desk.new) result }
+    ensures implements { let new = D.state desk.new in Implements (bench_spec (as_bench_words asked.now)) (seen_from new (D.state desk.old)) (seen_from new new) result }
+    ensures stays { Stays (D.state desk.old) (D.state desk.new) }
 {
     let names = Names {
         cnf: name,
@@ -66,7 +68,8 @@ fn say_size<D: Desk>(
     requires within { IsWithinLimits problem.now }
     requires reads { Reads (generated asked.now.count asked.now.seed) problem.now }
     requires unnamed { (as_bench_words asked.now).cnf ≡ None }
-    ensures { Implements (bench_spec (as_bench_words asked.now)) (D.state desk.old) (D.state desk.new) result }
+    ensures implements { let new = D.state desk.new in Implements (bench_spec (as_bench_words asked.now)) (seen_from new (D.state desk.old)) (seen_from new new) result }
+    ensures stays { Stays (D.state desk.old) (D.state desk.new) }
 {
     let options = Options::default();
     match measure(alloc, problem, &options) {
@@ -84,7 +87,8 @@ fn say_size<D: Desk>(
 pub fn bench_file<D: Desk>(alloc: Global, asked: &BenchArgs<'_>, desk: &mut D) -> Outcome
     requires closed { IsClosed (D.state desk.old) }
     requires fit { IsFitBench (as_bench_words asked.now) }
-    ensures { Implements (bench_spec (as_bench_words asked.now)) (D.state desk.old) (D.state desk.new) result }
+    ensures implements { let new = D.state desk.new in Implements (bench_spec (as_bench_words asked.now)) (seen_from new (D.state desk.old)) (seen_from new new) result }
+    ensures stays { Stays (D.state desk.old) (D.state desk.new) }
 {
     let Ok(problem) = generated_problem(alloc, asked.count, asked.seed) else {
         return Outcome::NoMemory;

@@ -7,6 +7,7 @@ ghost use Rattle.pb_suite.specs.Implementing.{Implements};
 ghost use Rattle.pb_suite.specs.InTurn.{OpensInTurn};
 ghost use Rattle.pb_suite.specs.CheckSpec.{check_spec};
 ghost use Rattle.pb_suite.specs.inner.Runs.{check_refusal};
+ghost use Rattle.pb_suite.specs.Seen.{seen_from, Stays};
 
 use crate::opening::open_checked;
 use crate::outcome::{Outcome, limited, refused};
@@ -36,8 +37,9 @@ pub fn check_refusal(fault: CheckFault) -> Outcome
 /// first, and of the other two nothing is kept but a line, a clause and the constraints that stand.
 pub fn check_file<D: Desk>(alloc: Global, asked: &CheckArgs<'_>, desk: &mut D) -> Outcome
     requires closed { IsClosed (D.state desk.old) }
-    ensures implements { Implements (check_spec (as_check_words asked.now)) (D.state desk.old) (D.state desk.new) result }
-    ensures in_turn { OpensInTurn (Check (as_check_words asked.now)) (D.state desk.old) (D.state desk.new) }
+    ensures implements { let new = D.state desk.new in Implements (check_spec (as_check_words asked.now)) (seen_from new (D.state desk.old)) (seen_from new new) result }
+    ensures in_turn { let new = D.state desk.new in OpensInTurn (Check (as_check_words asked.now)) (seen_from new (D.state desk.old)) (seen_from new new) }
+    ensures stays { Stays (D.state desk.old) (D.state desk.new) }
 {
     let problem = match open_checked(alloc, asked, desk) {
         Ok(problem) => problem,

@@ -11,6 +11,7 @@ ghost use Rattle.pb_suite.specs.InTurn.{OpensInTurn};
 ghost use Rattle.pb_suite.specs.DecodeSpec.{decode_spec, IsAnswered};
 ghost use Rattle.pb_suite.specs.Refusals.{RefusesModel};
 ghost use Rattle.pb_suite.specs.inner.Runs.{model_refusal, Fetches, HasText, IsUnendedIn, StopsReading};
+ghost use Rattle.pb_suite.specs.Seen.{seen_from, Stays};
 
 use crate::outcome::{Outcome, limited, refused};
 use crate::reading::{read_problem, read_text};
@@ -44,11 +45,12 @@ pub fn read_answer<D: Desk>(
     requires slot { slot < 5 }
     requires free { (D.state desk.old).view.reading slot ≡ false }
     ensures covers { IfOk result (λ m. length m.values ≡ vars) }
+    ensures stays { Stays (D.state desk.old) (D.state desk.new) }
     ensures read { IfOk result (λ m. (count : ℕ) × Fetches slot name.now count (D.state desk.old) (D.state desk.new)) }
-    ensures says { IfOk result (λ m. HasText name.now (λ text. told vars text ≡ Ok m) (D.state desk.old)) }
-    ensures stopped { IfErr result (StopsReading File.Model slot name.now (RefusesModel vars) (D.state desk.old) (D.state desk.new)) }
-    ensures unended { result ≡ Err Outcome.ReadFault → IsUnendedIn slot name.now (D.state desk.new) }
-    ensures steady { IsSteady (D.state desk.old) → result ≡ Err Outcome.ReadFault → IsTold (D.state desk.old) (λ t. IsNone (t.shelf name.now)) }
+    ensures says { IfOk result (λ m. HasText name.now (λ text. told vars text ≡ Ok m) (seen_from (D.state desk.new) (D.state desk.old))) }
+    ensures stopped { IfErr result (StopsReading File.Model slot name.now (RefusesModel vars) (seen_from (D.state desk.new) (D.state desk.old)) (seen_from (D.state desk.new) (D.state desk.new))) }
+    ensures unended { result ≡ Err Outcome.ReadFault → IsUnendedIn slot name.now (seen_from (D.state desk.new) (D.state desk.new)) }
+    ensures steady { let seen = seen_from (D.state desk.new) (D.state desk.old) in IsSteady seen → result ≡ Err Outcome.ReadFault → IsTold seen (λ t. IsNone (t.shelf name.now)) }
 {
     let text = match read_text(alloc, desk, slot, File::Model, name) {
         Ok(text) => text,
@@ -71,8 +73,9 @@ fn say_solution<D: Desk>(
     requires within { IsWithinLimits problem.now }
     requires solution { IsDecoded problem.now model.now Decoded.Solution }
     requires covers { length model.now.values ≡ problem.now.vars }
-    requires answered { IfTold (D.state desk.old) (λ t. IsAnswered t.shelf (as_decode_words asked.now) problem.now model.now) }
-    ensures { Implements (decode_spec (as_decode_words asked.now)) (D.state desk.old) (D.state desk.new) result }
+    requires answered { IfTold (seen_from (D.state desk.old) (D.state desk.old)) (λ t. IsAnswered t.shelf (as_decode_words asked.now) problem.now model.now) }
+    ensures implements { let new = D.state desk.new in Implements (decode_spec (as_decode_words asked.now)) (seen_from new (D.state desk.old)) (seen_from new new) result }
+    ensures stays { Stays (D.state desk.old) (D.state desk.new) }
 {
     let mut text = Vec::new(alloc);
     match write_solution(alloc, problem, &model.values, &mut text) {
@@ -91,8 +94,9 @@ fn say_decoded<D: Desk>(
 ) -> Outcome
     requires within { IsWithinLimits problem.now }
     requires covers { length model.now.values ≡ problem.now.vars }
-    requires answered { IfTold (D.state desk.old) (λ t. IsAnswered t.shelf (as_decode_words asked.now) problem.now model.now) }
-    ensures { Implements (decode_spec (as_decode_words asked.now)) (D.state desk.old) (D.state desk.new) result }
+    requires answered { IfTold (seen_from (D.state desk.old) (D.state desk.old)) (λ t. IsAnswered t.shelf (as_decode_words asked.now) problem.now model.now) }
+    ensures implements { let new = D.state desk.new in Implements (decode_spec (as_decode_words asked.now)) (seen_from new (D.state desk.old)) (seen_from new new) result }
+    ensures stays { Stays (D.state desk.old) (D.state desk.new) }
 {
     match decode(problem, model) {
         Decoded::NoModel => Outcome::NoModel,
@@ -104,8 +108,9 @@ fn say_decoded<D: Desk>(
 /// Says the solution of a problem that a solver's model gives. The values are tested against each statement.
 pub fn decode_file<D: Desk>(alloc: Global, asked: &DecodeArgs<'_>, desk: &mut D) -> Outcome
     requires closed { IsClosed (D.state desk.old) }
-    ensures implements { Implements (decode_spec (as_decode_words asked.now)) (D.state desk.old) (D.state desk.new) result }
-    ensures in_turn { OpensInTurn (Decode (as_decode_words asked.now)) (D.state desk.old) (D.state desk.new) }
+    ensures implements { let new = D.state desk.new in Implements (decode_spec (as_decode_words asked.now)) (seen_from new (D.state desk.old)) (seen_from new new) result }
+    ensures in_turn { let new = D.state desk.new in OpensInTurn (Decode (as_decode_words asked.now)) (seen_from new (D.state desk.old)) (seen_from new new) }
+    ensures stays { Stays (D.state desk.old) (D.state desk.new) }
 {
     let problem = match read_problem(alloc, asked.opb, asked.bound, desk) {
         Ok(problem) => problem,

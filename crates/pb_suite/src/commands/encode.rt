@@ -4,6 +4,7 @@ ghost use Rattle.pb_words.specs.EncodeWords.{as_encode_words};
 ghost use Rattle.pb_words.specs.inner.Fit.{IsFitEncode};
 ghost use Rattle.pb_suite.specs.Implementing.{Implements};
 ghost use Rattle.pb_suite.specs.EncodeSpec.{encode_spec};
+ghost use Rattle.pb_suite.specs.Seen.{seen_from, Stays};
 
 use crate::outcome::Outcome;
 use crate::reading::read_problem;
@@ -17,7 +18,8 @@ use std::alloc::Global;
 pub fn encode_file<D: Desk>(alloc: Global, asked: &EncodeArgs<'_>, desk: &mut D) -> Outcome
     requires closed { IsClosed (D.state desk.old) }
     requires fit { IsFitEncode (as_encode_words asked.now) }
-    ensures { Implements (encode_spec (as_encode_words asked.now)) (D.state desk.old) (D.state desk.new) result }
+    ensures implements { let new = D.state desk.new in Implements (encode_spec (as_encode_words asked.now)) (seen_from new (D.state desk.old)) (seen_from new new) result }
+    ensures stays { Stays (D.state desk.old) (D.state desk.new) }
 {
     let names = Names {
         cnf: asked.cnf,

@@ -3,6 +3,7 @@ ghost use Rattle.pb_desk.specs.Desk.{IsClosed};
 ghost use Rattle.pb_words.specs.MapWords.{as_map_words};
 ghost use Rattle.pb_suite.specs.Implementing.{Implements};
 ghost use Rattle.pb_suite.specs.MapSpec.{map_spec};
+ghost use Rattle.pb_suite.specs.Seen.{seen_from, Stays};
 
 use crate::outcome::Outcome;
 use crate::reading::read_problem;
@@ -16,7 +17,8 @@ use std::alloc::Global;
 /// Says which variables of a problem have free names, and which names.
 pub fn map_file<D: Desk>(alloc: Global, asked: &MapArgs<'_>, desk: &mut D) -> Outcome
     requires closed { IsClosed (D.state desk.old) }
-    ensures { Implements (map_spec (as_map_words asked.now)) (D.state desk.old) (D.state desk.new) result }
+    ensures implements { let new = D.state desk.new in Implements (map_spec (as_map_words asked.now)) (seen_from new (D.state desk.old)) (seen_from new new) result }
+    ensures stays { Stays (D.state desk.old) (D.state desk.new) }
 {
     let problem = match read_problem(alloc, asked.opb, None, desk) {
         Ok(problem) => problem,

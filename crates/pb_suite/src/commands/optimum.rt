@@ -9,6 +9,7 @@ ghost use Rattle.pb_words.specs.Parsed.Wanted.{Optimum};
 ghost use Rattle.pb_suite.specs.Implementing.{Implements};
 ghost use Rattle.pb_suite.specs.InTurn.{OpensInTurn};
 ghost use Rattle.pb_suite.specs.OptimumSpec.{next_below, optimum_spec, IsReached};
+ghost use Rattle.pb_suite.specs.Seen.{seen_from, Stays};
 ghost use Rattle.pb_suite.specs.inner.Optima.{HasFree, IsAimedAt};
 
 use crate::commands::decode::read_answer;
@@ -49,8 +50,9 @@ fn prove_least<D: Desk>(
     requires few { length problem.statements ≤ 2 ^ 24 }
     requires covers { length model.now.values ≡ problem.vars }
     requires free { HasFree (D.state desk.old) }
-    requires reached { IfTold (D.state desk.old) (λ t. IsReached t.shelf (as_optimum_words asked.now) problem model.now) }
-    ensures { Implements (optimum_spec (as_optimum_words asked.now)) (D.state desk.old) (D.state desk.new) result }
+    requires reached { IfTold (seen_from (D.state desk.old) (D.state desk.old)) (λ t. IsReached t.shelf (as_optimum_words asked.now) problem model.now) }
+    ensures implements { let new = D.state desk.new in Implements (optimum_spec (as_optimum_words asked.now)) (seen_from new (D.state desk.old)) (seen_from new new) result }
+    ensures stays { Stays (D.state desk.old) (D.state desk.new) }
 {
     let mut text = Vec::new(alloc);
     match write_optimum(alloc, &problem, &model.values, &mut text) {
@@ -79,8 +81,9 @@ fn prove_decoded<D: Desk>(
     requires few { length problem.statements ≤ 2 ^ 24 }
     requires covers { length model.now.values ≡ problem.vars }
     requires free { HasFree (D.state desk.old) }
-    requires answered { IfTold (D.state desk.old) (λ t. IsAimedAt t.shelf (as_optimum_words asked.now) problem model.now) }
-    ensures { Implements (optimum_spec (as_optimum_words asked.now)) (D.state desk.old) (D.state desk.new) result }
+    requires answered { IfTold (seen_from (D.state desk.old) (D.state desk.old)) (λ t. IsAimedAt t.shelf (as_optimum_words asked.now) problem model.now) }
+    ensures implements { let new = D.state desk.new in Implements (optimum_spec (as_optimum_words asked.now)) (seen_from new (D.state desk.old)) (seen_from new new) result }
+    ensures stays { Stays (D.state desk.old) (D.state desk.new) }
 {
     match decode(&problem, model) {
         Decoded::NoModel => Outcome::NoModel,
@@ -93,8 +96,9 @@ fn prove_decoded<D: Desk>(
 /// statement, and the other texts have to refute the problem with the bound one below its value.
 pub fn optimum_file<D: Desk>(alloc: Global, asked: &OptimumArgs<'_>, desk: &mut D) -> Outcome
     requires closed { IsClosed (D.state desk.old) }
-    ensures implements { Implements (optimum_spec (as_optimum_words asked.now)) (D.state desk.old) (D.state desk.new) result }
-    ensures in_turn { OpensInTurn (Optimum (as_optimum_words asked.now)) (D.state desk.old) (D.state desk.new) }
+    ensures implements { let new = D.state desk.new in Implements (optimum_spec (as_optimum_words asked.now)) (seen_from new (D.state desk.old)) (seen_from new new) result }
+    ensures in_turn { let new = D.state desk.new in OpensInTurn (Optimum (as_optimum_words asked.now)) (seen_from new (D.state desk.old)) (seen_from new new) }
+    ensures stays { Stays (D.state desk.old) (D.state desk.new) }
 {
     let problem = match read_problem(alloc, asked.opb, None, desk) {
         Ok(problem) => problem,

@@ -4,6 +4,7 @@ ghost use Rattle.pb_desk.specs.Desk.{IsClosed};
 ghost use Rattle.pb_words.specs.ProbeWords.{as_probe_words};
 ghost use Rattle.pb_suite.specs.Implementing.{Implements};
 ghost use Rattle.pb_suite.specs.ProbeSpec.{probe_spec, SaysOfLits};
+ghost use Rattle.pb_suite.specs.Seen.{seen_from, Stays};
 ghost use Rattle.pb_unit.specs.Reaching.{OfClauses};
 
 use crate::cnf::read_cnf;
@@ -29,7 +30,8 @@ fn line_of(alloc: Global, forms: Constraints, lits: &Lits) -> Result<Vec<u8>, No
 /// Says what the literals reach over the clauses of a file.
 pub fn probe_file<D: Desk>(alloc: Global, asked: &ProbeArgs<'_>, desk: &mut D) -> Outcome
     requires closed { IsClosed (D.state desk.old) }
-    ensures { Implements (probe_spec (as_probe_words asked.now)) (D.state desk.old) (D.state desk.new) result }
+    ensures implements { let new = D.state desk.new in Implements (probe_spec (as_probe_words asked.now)) (seen_from new (D.state desk.old)) (seen_from new new) result }
+    ensures stays { Stays (D.state desk.old) (D.state desk.new) }
 {
     let read = match read_cnf(alloc, asked.cnf, desk) {
         Ok(read) => read,

@@ -9,6 +9,7 @@ ghost use Rattle.pb_suite.specs.InTurn.{OpensInTurn};
 ghost use Rattle.pb_suite.specs.RefuteSpec.{refute_spec};
 ghost use Rattle.pb_suite.specs.inner.Refuting.{EndsFollowing, EndsRefuting};
 ghost use Rattle.pb_suite.specs.inner.Runs.{lrat_refusal};
+ghost use Rattle.pb_suite.specs.Seen.{seen_from, Stays};
 
 use crate::commands::check::check_refusal;
 use crate::opening::open_checked;
@@ -88,8 +89,9 @@ pub fn refute_opened<D: Desk>(
 /// refutation shows that there is none. The problem is read whole first; the clauses of the CNF are kept, and of the other texts a line.
 pub fn refute_file<D: Desk>(alloc: Global, asked: &RefuteArgs<'_>, desk: &mut D) -> Outcome
     requires closed { IsClosed (D.state desk.old) }
-    ensures implements { Implements (refute_spec (as_refute_words asked.now)) (D.state desk.old) (D.state desk.new) result }
-    ensures in_turn { OpensInTurn (Refute (as_refute_words asked.now)) (D.state desk.old) (D.state desk.new) }
+    ensures implements { let new = D.state desk.new in Implements (refute_spec (as_refute_words asked.now)) (seen_from new (D.state desk.old)) (seen_from new new) result }
+    ensures in_turn { let new = D.state desk.new in OpensInTurn (Refute (as_refute_words asked.now)) (seen_from new (D.state desk.old)) (seen_from new new) }
+    ensures stays { Stays (D.state desk.old) (D.state desk.new) }
 {
     let problem = match open_checked(alloc, &asked.checking, desk) {
         Ok(problem) => problem,

@@ -3,6 +3,7 @@ ghost use Rattle.pb_desk.specs.Desk.{IsClosed};
 ghost use Rattle.pb_words.specs.WcnfWords.{as_wcnf_words};
 ghost use Rattle.pb_suite.specs.Implementing.{Implements};
 ghost use Rattle.pb_suite.specs.WcnfSpec.{wcnf_spec};
+ghost use Rattle.pb_suite.specs.Seen.{seen_from, Stays};
 
 use crate::outcome::Outcome;
 use crate::reading::read_problem;
@@ -16,7 +17,8 @@ use std::alloc::Global;
 /// the size of the hard clauses.
 pub fn wcnf_file<D: Desk>(alloc: Global, asked: &WcnfArgs<'_>, desk: &mut D) -> Outcome
     requires closed { IsClosed (D.state desk.old) }
-    ensures { Implements (wcnf_spec (as_wcnf_words asked.now)) (D.state desk.old) (D.state desk.new) result }
+    ensures implements { let new = D.state desk.new in Implements (wcnf_spec (as_wcnf_words asked.now)) (seen_from new (D.state desk.old)) (seen_from new new) result }
+    ensures stays { Stays (D.state desk.old) (D.state desk.new) }
 {
     let problem = match read_problem(alloc, asked.opb, asked.bound, desk) {
         Ok(problem) => problem,

@@ -4,7 +4,7 @@ ghost use Rattle.pb_desk.specs.Desk.{IsClosed};
 
 use pb_base::Failed;
 use pb_desk::Desk;
-use pb_files::{FileId, Handle, Host, RealDesk, System};
+use pb_files::{FileId, Host, RealDesk, System};
 use std::fs;
 
 // A system that answers by a list: a number, or that it fails. It fails where the list has ended.
@@ -28,10 +28,8 @@ impl<'a> Scripted<'a> {
     }
 
     // The file of the number that is next.
-    fn next_file(&mut self) -> Result<Handle, Failed> {
-        let number = self.next()? as u64;
-        let id = file_of(number);
-        Ok(Handle { number, id })
+    fn next_file(&mut self) -> Result<Option<FileId>, Failed> {
+        Ok(file_of(self.next()? as u64))
     }
 
     // At most so many bytes.
@@ -50,33 +48,35 @@ impl<'a> System for Scripted<'a> {
 
     ghost calls = { λ system. None };
 
+    ghost files = { λ system name. None };
+
     ghost output = { λ system. system.output };
 
     fn output(&self) -> Option<FileId> {
         self.output
     }
 
-    fn open(&mut self, _name: &str) -> Result<Handle, Failed> {
+    fn open(&mut self, _slot: u8, _name: &str) -> Result<Option<FileId>, Failed> {
         self.next_file()
     }
 
-    fn create(&mut self, _name: &str) -> Result<Handle, Failed> {
+    fn create(&mut self, _slot: u8, _name: &str) -> Result<Option<FileId>, Failed> {
         self.next_file()
     }
 
-    fn truncate(&mut self, _file: u64) -> Result<(), Failed> {
+    fn truncate(&mut self, _slot: u8) -> Result<(), Failed> {
         self.next().and(Ok(()))
     }
 
-    fn read(&mut self, _file: u64, room: &mut [u8]) -> Result<usize, Failed> {
+    fn read(&mut self, _slot: u8, room: &mut [u8]) -> Result<usize, Failed> {
         self.next_count(room.len())
     }
 
-    fn write(&mut self, _file: u64, piece: &[u8]) -> Result<usize, Failed> {
+    fn write(&mut self, _slot: u8, piece: &[u8]) -> Result<usize, Failed> {
         self.next_count(piece.len())
     }
 
-    fn sync(&mut self, _file: u64) -> Result<(), Failed> {
+    fn sync(&mut self, _slot: u8) -> Result<(), Failed> {
         self.next().and(Ok(()))
     }
 

@@ -1,6 +1,6 @@
 use Rattle.std.proofs.Common.{◌≡◌, ℕ, List, Ok, ap, subst, sym}
 use Rattle.pb_base.specs.declared.literal.Lit.{Lit}
-use Rattle.pb_desk.specs.Desk.{IfTold}
+use Rattle.pb_desk.specs.Desk.{IfKept}
 use Rattle.pb_desk.specs.TwoSlots.{TakesBoth}
 use Rattle.pb_desk.specs.LineReaders.{Reader}
 use Rattle.pb_desk.proofs.BothSlots.{takes_none}
@@ -45,11 +45,13 @@ returns-in-Ok-check_texts-clause-verdict g c =
 pub returns-in-Ok-check_texts-clause-vars : goal.returns-in-Ok-check_texts-clause-vars
 returns-in-Ok-check_texts-clause-vars g c =
     let a = g.D.Desk.state c.args.desk.now in
-    subst (λ (x : ℕ). IfTold a (λ t. HasVars (t.left x) c.in-Ok-check_texts.vars)) (ap (λ (r : CnfReader). r.lines.slot) c.in-Ok-new.ensures) c.in-Ok-check_texts.ensures.vars
+    let b = g.D.Desk.state c.check_texts.new.desk in
+    subst (λ (x : ℕ). IfKept a b (λ t. HasVars (t.left x) c.in-Ok-check_texts.vars)) (ap (λ (r : CnfReader). r.lines.slot) c.in-Ok-new.ensures) c.in-Ok-check_texts.ensures.vars
 
 pub returns-in-Ok-check_texts-clause-clauses : goal.returns-in-Ok-check_texts-clause-clauses
 returns-in-Ok-check_texts-clause-clauses g c = λ wanted accepted.
     let a = g.D.Desk.state c.args.desk.now in
-    subst (λ (cs : List (List Lit)). IfTold a (λ t. SaysClauses (t.left c.args.cnf) c.in-Ok-check_texts.vars cs)) (sym c.into_clauses.ensures)
-    (subst (λ (x : ℕ). IfTold a (λ t. SaysClauses (t.left x) c.in-Ok-check_texts.vars c.check_texts.new.session.kept.clauses)) (ap (λ (r : CnfReader). r.lines.slot) c.in-Ok-new.ensures)
+    let b = g.D.Desk.state c.check_texts.new.desk in
+    subst (λ (cs : List (List Lit)). IfKept a b (λ t. SaysClauses (t.left c.args.cnf) c.in-Ok-check_texts.vars cs)) (sym c.into_clauses.ensures)
+    (subst (λ (x : ℕ). IfKept a b (λ t. SaysClauses (t.left x) c.in-Ok-check_texts.vars c.check_texts.new.session.kept.clauses)) (ap (λ (r : CnfReader). r.lines.slot) c.in-Ok-new.ensures)
     (c.in-Ok-check_texts.ensures.clauses wanted accepted))

@@ -9,9 +9,11 @@ check_by-requires-clause-nothing g c = ap (λ (k : CollectedClauses). k.clauses)
 pub returns-in-Accepted-clause-kept : goal.returns-in-Accepted-clause-kept
 returns-in-Accepted-clause-kept g c =
     let a = g.D.Desk.state c.args.desk.now in
-    kept_all a c.args.cnf c.in-Ok.found.0 c.in-Ok.found.1 c.in-Ok.found.2 c.in-Accepted.is (c.in-Ok.ensures.clauses (ap (λ (k : CollectedClauses). k.wanted) c.all-kept.ensures) c.in-Accepted.is)
+    let b = g.D.Desk.state c.check_by.new.desk in
+    kept_all a b c.args.cnf c.in-Ok.found.0 c.in-Ok.found.1 c.in-Ok.found.2 c.in-Accepted.is (c.in-Ok.ensures.clauses (ap (λ (k : CollectedClauses). k.wanted) c.all-kept.ensures) c.in-Accepted.is)
 
 pub returns-in-Rejected-clause-kept : goal.returns-in-Rejected-clause-kept
 returns-in-Rejected-clause-kept g c =
     let a = g.D.Desk.state c.args.desk.now in
-    kept_none a c.args.cnf c.in-Ok.found.0 c.in-Ok.found.1 _ _ _ c.in-Rejected.is c.new.ensures c.in-Ok.ensures.vars
+    let b = g.D.Desk.state c.check_by.new.desk in
+    kept_none a b c.args.cnf c.in-Ok.found.0 c.in-Ok.found.1 _ _ _ c.in-Rejected.is c.new.ensures c.in-Ok.ensures.vars

@@ -65,9 +65,9 @@ returns-in-Err-check_over-clause-stopped g c =
     c.requires.new c.args.session.now.apart c.in-Ok.ensures.slot c.in-Ok.ensures.head is c.in-Err-check_over.ensures.stopped
 
 pub returns-in-Ok-check_over-clause-vars : goal.returns-in-Ok-check_over-clause-vars
-returns-in-Ok-check_over-clause-vars g c =
+returns-in-Ok-check_over-clause-vars g c = λ k.
     let s = c.args.session.now in
-    vars_told c.args.problem.now s.cnf.lines.slot s.lines.slot s.cnf c.head.new.self s.lines c.in-Ok.head (g.D.Desk.state c.args.desk.now) (g.D.Desk.state c.head.new.desk) (are_new s c.requires.new) s.apart c.in-Ok.ensures.slot c.in-Ok.ensures.head
+    vars_told c.args.problem.now s.cnf.lines.slot s.lines.slot s.cnf c.head.new.self s.lines c.in-Ok.head (g.D.Desk.state c.args.desk.now) (g.D.Desk.state c.head.new.desk) (are_new s c.requires.new) s.apart c.in-Ok.ensures.slot c.in-Ok.ensures.head (c.in-Ok-check_over.ensures.verdict.reached.kept k)
 
 pub returns-in-Ok-check_over-clause-clauses : goal.returns-in-Ok-check_over-clause-clauses
 returns-in-Ok-check_over-clause-clauses g c = λ wanted accepted.

@@ -8,11 +8,11 @@ use Rattle.pb_desk.proofs.BothSlots.{differs}
 use Rattle.pb_desk.proofs.whole.read_pieces.Goals as goal
 
 pub returns-then-count-eq0-clause-whole : goal.returns-then-count-eq0-clause-whole
-returns-then-count-eq0-clause-whole g c =
+returns-then-count-eq0-clause-whole g c = λ k.
     let so_far = c.loop-text.invariant in
     let old = g.D.Desk.state c.args.desk.now in
     subst (λ (text : List ℕ). IfTold old (λ t. text ≡ t.left c.args.slot)) (sym c.from_vec.ensures)
-    (whole_at_end c.args.slot (length c.loop-text.text.items) c.in_ok-count.count c.loop-text.text.items c.read.new.room old (g.D.Desk.state c.loop-text.desk) so_far.taken so_far.so_far c.if-count-eq0.true (omega (arith, c.read.auto.room)) c.in_ok-count.ensures.bytes)
+    (whole_at_end c.args.slot (length c.loop-text.text.items) c.in_ok-count.count c.loop-text.text.items c.read.new.room old (g.D.Desk.state c.loop-text.desk) so_far.taken (so_far.so_far (c.in_ok-count.ensures.ok.kept k)) c.if-count-eq0.true (omega (arith, c.read.auto.room)) (c.in_ok-count.ensures.bytes k))
 
 pub returns-then-count-limit-clause-too_long : goal.returns-then-count-limit-clause-too_long
 returns-then-count-limit-clause-too_long g c = λ _.

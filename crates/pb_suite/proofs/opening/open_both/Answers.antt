@@ -34,6 +34,6 @@ returns-clause-opened g c =
     reads_by_then (opened 1 cnf) (opened 2 proof) (opened_both cnf proof) (g.D.Desk.state c.args.desk.now) (g.D.Desk.state c.«open».new.self) (g.D.Desk.state c.open-2.new.self) (λ v. refl) c.in_ok-open.ensures.ok c.in_ok-open-2.ensures.ok
 
 pub returns-clause-found : goal.returns-clause-found
-returns-clause-found g c =
+returns-clause-found g c = λ k.
     have_both c.args.cnf.now c.args.proof.now (g.D.Desk.state c.args.desk.now) (g.D.Desk.state c.«open».new.self) (g.D.Desk.state c.open-2.new.self) c.in_ok-open.ensures.ok.view c.in_ok-open-2.ensures.ok.view
-    c.in_ok-open.ensures.found c.in_ok-open-2.ensures.found
+    (c.in_ok-open.ensures.found (c.in_ok-open-2.ensures.ok.kept k)) (c.in_ok-open-2.ensures.found k)

@@ -1,6 +1,7 @@
 use Rattle.std.proofs.Common.{refl}
 use Rattle.pb_suite.specs.Programs.AnswersSome.{usage, no_memory}
 use Rattle.pb_suite.proofs.Programs.{answers_some}
+use Rattle.pb_suite.proofs.SeenLemmas.{stays_same}
 use Rattle.pb_suite.proofs.program.run_given.Goals as goal
 
 pub returns-in-Err-clause-answers : goal.returns-in-Err-clause-answers
@@ -14,3 +15,12 @@ returns-in_default-clause-answers g c = no_memory refl
 
 pub returns-clause-answers : goal.returns-clause-answers
 returns-clause-answers g c = answers_some _ _ _ _ c.run.ensures.implements c.run.ensures.taken c.run.ensures.unmoved
+
+pub returns-in-Err-clause-stays : goal.returns-in-Err-clause-stays
+returns-in-Err-clause-stays g c = stays_same (g.D.Desk.state c.args.desk.now)
+
+pub returns-in-Err-2-clause-stays : goal.returns-in-Err-2-clause-stays
+returns-in-Err-2-clause-stays g c = stays_same (g.D.Desk.state c.args.desk.now)
+
+pub returns-in_default-clause-stays : goal.returns-in_default-clause-stays
+returns-in_default-clause-stays g c = stays_same (g.D.Desk.state c.args.desk.now)

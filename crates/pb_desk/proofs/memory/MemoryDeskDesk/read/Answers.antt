@@ -10,4 +10,5 @@ returns-clause-ok c = record {
   tells = refl;
   reads = omega arith;
   writes = omega arith;
+  kept = λ k. k;
 }

@@ -1,4 +1,4 @@
-use Rattle.std.proofs.Common.{◌≡◌, ℕ, List, Some, None, Err, ap, length, sym, subst}
+use Rattle.std.proofs.Common.{◌≡◌, ℕ, List, Some, None, Err, ap, length, refl, sym, subst}
 use Rattle.pb_base.specs.declared.file.File.TheVariants.{Model}
 use Rattle.pb_base.specs.declared.limit.LimitKind.TheVariants.{Text}
 use Rattle.pb_desk.specs.Desk.{DeskState, IfTold}
@@ -8,12 +8,14 @@ use Rattle.pb_model.specs.ModelReading.{told, IsFaultOf}
 use Rattle.pb_suite.specs.declared.outcome.Outcome.{Outcome}
 use Rattle.pb_suite.specs.declared.outcome.Outcome.TheVariants as outcome
 use Rattle.pb_suite.specs.Refusals.{RefusesModel}
-use Rattle.pb_suite.specs.inner.Runs.{model_refusal, Fetches, IsTooLong, StopsReading}
+use Rattle.pb_suite.specs.inner.Runs.{fetched, model_refusal, Fetches, IsTooLong, StopsReading}
 use Rattle.pb_suite.specs.inner.Runs.RefusesFile.{token as at_token, limit as at_limit}
 use Rattle.pb_suite.specs.Refusals.RefusesModel.{token, limit}
 use Rattle.pb_suite.specs.inner.Runs.StopsReading.{no_memory, refused}
 use Rattle.pb_suite.proofs.DecodeSpecs.{too_long as told_too_long}
 use Rattle.pb_suite.proofs.Fetching.{reading_weaker}
+use Rattle.pb_suite.specs.Seen.{seen_from}
+use Rattle.pb_suite.proofs.SeenLemmas.{reads_seen}
 use Rattle.pb_suite.proofs.Texts.{has_text}
 use Rattle.pb_suite.proofs.commands.decode.read_answer.Goals as goal
 
@@ -44,10 +46,12 @@ returns-in-Err-clause-unended g c = λ is.
 
 pub returns-clause-stopped : goal.returns-clause-stopped
 returns-clause-stopped g c =
-    let a = g.D.Desk.state c.args.desk.now in
-    let b = g.D.Desk.state c.read_text.new.desk in
+    let d = g.D.Desk.state c.read_text.new.desk in
+    let a = seen_from d (g.D.Desk.state c.args.desk.now) in
+    let b = seen_from d d in
+    let fetches = reads_seen (fetched c.args.slot c.args.name.now (length c.in-Ok.text)) (λ v. refl) (g.D.Desk.state c.args.desk.now) d d c.in-Ok.ensures.fetched in
     let name = c.args.name.now in
     let text = c.in-Ok.text in
     let first = subst (λ (xs : List ℕ). IsFaultOf (told c.args.vars xs) c.in-Err-read_model.fault) c.as_slice.ensures c.in-Err-read_model.ensures.fault in
     subst (StopsReading Model c.args.slot name (RefusesModel c.args.vars) a b) (sym c.model_refusal.ensures)
-    (stops_at c.args.vars c.args.slot name text a b c.in-Err-read_model.fault c.in-Ok.ensures.fetched c.in-Ok.ensures.text first)
+    (stops_at c.args.vars c.args.slot name text a b c.in-Err-read_model.fault fetches c.in-Ok.ensures.text first)

@@ -1,6 +1,6 @@
 use Rattle.std.proofs.Common.{Err, Ok, ◌∙◌, ap, sym, subst}
 use Rattle.pb_desk.specs.View.{View}
-use Rattle.pb_desk.specs.Desk.{IfTold}
+use Rattle.pb_desk.specs.Desk.{IfKept}
 use Rattle.pb_desk.specs.TwoSlots.{TakesBoth}
 use Rattle.pb_check.specs.declared.verdict.Verdict.{Verdict}
 use Rattle.pb_check.specs.KeptClauses.{IsKept}
@@ -24,7 +24,7 @@ returns-in-Accepted g c =
     let found = c.in-Ok.found in
     accepted_then e found.1 found.2 c.check_refutation.result
     (subst (λ (v : Verdict). TakesBoth 1 2 (λ x y. Walk c.args.problem.now x y (Ok v)) d e) c.in-Accepted.is c.in-Ok.ensures.verdict)
-    (subst (λ (v : Verdict). IfTold d (λ t. IsKept v (t.left 1) found.1 found.2)) c.in-Accepted.is c.in-Ok.ensures.kept)
+    (subst (λ (v : Verdict). IfKept d e (λ t. IsKept v (t.left 1) found.1 found.2)) c.in-Accepted.is c.in-Ok.ensures.kept)
     c.check_refutation.ensures
 
 pub returns-in-Rejected : goal.returns-in-Rejected
