@@ -1,21 +1,22 @@
 # A derivation is at most twelve times as long as the CNF, however long the sum is: of each family of bench but the diagram, whose lines
-# speak of all terms behind a node, and of tables of bounds.
+# speak of all terms behind a node, and of tables of bounds. That of a totalizer is at most nine times as long.
 . "$top/tests/lib.sh"
 needs python3
 
-# is_short NAME LINE OPTION..: of NAME.opb a line like this is said; its derivation is accepted, and so short.
+# is_short TIMES NAME LINE OPTION..: of NAME.opb a line like this is said; its derivation is accepted, and at most so many times as long as
+# the CNF.
 is_short() {
     local clauses steps
-    fine encode "$1.opb" o.cnf o.proof "${@:3}"
-    last=$(shown pb encode "$1.opb" "${@:3}")
-    if grep -q -- "$2" "$said"; then passed; else failed "$last: wanted a line like $2, got $(bytes_of "$said")"; fi
+    fine encode "$2.opb" o.cnf o.proof "${@:4}"
+    last=$(shown pb encode "$2.opb" "${@:4}")
+    if grep -q -- "$3" "$said"; then passed; else failed "$last: wanted a line like $3, got $(bytes_of "$said")"; fi
     clauses=$(stat -c %s o.cnf) steps=$(stat -c %s o.proof)
-    if [ "${steps:-0}" -gt 0 ] && [ "$steps" -le $((12 * clauses)) ]; then
+    if [ "${steps:-0}" -gt 0 ] && [ "$steps" -le $(($1 * clauses)) ]; then
         passed
     else
-        failed "$last: wanted at most $((12 * clauses)) bytes, got ${steps:-none}"
+        failed "$last: wanted at most $(($1 * clauses)) bytes, got ${steps:-none}"
     fi
-    fine check "$1.opb" o.cnf o.proof
+    fine check "$2.opb" o.cnf o.proof
     says accepted
 }
 
@@ -32,14 +33,20 @@ for family in instances.FAMILIES:
 }
 problems >families
 while read -r name family options; do
-    [ $family = diagram ] || is_short "$name" " $family 1\>" $options
+    times=12
+    [ $family != totalizer ] || times=9
+    [ $family = diagram ] || is_short $times "$name" " $family 1\>" $options
 done <families
 last='the families of bench'
 cut -d ' ' -f 2 families | sort -u >names
 holds names adder counter diagram ladder product totalizer tree
 
+# At most 20 of 2,000.
+awk 'BEGIN { for (i = 1; i <= 2000; i++) printf "+1 x%d ", i; print "<= 20 ;" }' >few.opb
+is_short 8 few ' totalizer 1\>' --card totalizer
+
 # Objectives of 100 and 200 weights, with a bound for each value.
 for count in 100 200; do
     sed 's/^\(+.*\) <= [0-9]* ;$/min: \1 ;/' "tree_$count.opb" >"table_$count.opb"
-    is_short "table_$count" "^bound $((4 * count)) " --table
+    is_short 12 "table_$count" "^bound $((4 * count)) " --table
 done

@@ -19,11 +19,10 @@ use Rattle.pb_totalizer.specs.ExactSteps.{after_ids, after_weakened, limit_justi
 use Rattle.pb_totalizer.specs.Totalizer.{totalizer}
 use Rattle.pb_totalizer.specs.TotalizerSteps.{totalizer_pairs}
 use Rattle.pb_totalizer.specs.declared.node_ids.Source.{Source}
-use Rattle.pb_totalizer.specs.declared.polarity.Polarity.TheVariants.{Both}
+use Rattle.pb_totalizer.specs.inner.ExactSources.{nodes_justifications, exact_all_justifications}
 use Rattle.pb_totalizer.specs.inner.LimitSources.{seconds_from, ids_after, weakened_after, limit_given, limits_given, least_given}
 use Rattle.pb_totalizer.specs.inner.Sources.{ids_from, root_given}
 use Rattle.pb_totalizer.specs.laws.PairRows.{rows_by_pairs}
-use Rattle.pb_totalizer.specs.laws.Polarity.{justifications_by, exact_all_justifications}
 use Rattle.pb_totalizer.proofs.Handed.{named, root_is}
 
 -- ---- the clauses of a node, from its outputs to its parts
@@ -94,14 +93,14 @@ least_is bound ts id lower root same = ap (λ (is : List ℕ). named (is ++ lowe
 
 -- all clauses are those of the nodes and those of the root
 pub exact_ends_last : (bound : ℕ) (ts : List Term) (id lower upper : ℕ) (root : Source) → ids_from root ≡ output_ids (totalizer bound) (tree_of (weights ts)) id
-    → HaveSameSteps (justifications_by Both bound ts id ++ (least_given root bound lower ∷ root_given root (bound + 1) upper ∷ [])) (exact_all_justifications bound ts id lower upper)
+    → HaveSameSteps (nodes_justifications bound ts id ++ (least_given root bound lower ∷ root_given root (bound + 1) upper ∷ [])) (exact_all_justifications bound ts id lower upper)
 exact_ends_last bound ts id lower upper root same =
     let t = tree_of (weights ts) in
     let ends = least_justification bound t 0 id lower ∷ root_justification (totalizer bound) t 0 id upper ∷ [] in
     let one = least_is bound ts id lower root same in
     let two = root_is bound ts id upper root same in
     let are : (least_given root bound lower ∷ root_given root (bound + 1) upper ∷ []) ≡ map bare ends = λ i. one i ∷ two i ∷ [] in
-    same_append (justifications_by Both bound ts id) (justifications_by Both bound ts id) (least_given root bound lower ∷ root_given root (bound + 1) upper ∷ []) ends (record { count = refl; steps = λ next. refl })
+    same_append (nodes_justifications bound ts id) (nodes_justifications bound ts id) (least_given root bound lower ∷ root_given root (bound + 1) upper ∷ []) ends (record { count = refl; steps = λ next. refl })
     (subst (λ (rs : List Justification). HaveSameSteps rs ends) (sym are) (bare_same ends))
 
 -- from the sink's next id on
@@ -116,7 +115,7 @@ exact_all_same bound ts first lower upper base next is =
 
 -- ---- how many
 
-pub exact_all_counted : (bound : ℕ) (ts : List Term) (id lower upper : ℕ) → length (exact_all_justifications bound ts id lower upper) ≡ length (justifications_by Both bound ts id) + 2
+pub exact_all_counted : (bound : ℕ) (ts : List Term) (id lower upper : ℕ) → length (exact_all_justifications bound ts id lower upper) ≡ length (nodes_justifications bound ts id) + 2
 exact_all_counted bound ts id lower upper =
     let t = tree_of (weights ts) in
-    omega (arith, length-append (justifications_by Both bound ts id) (least_justification bound t 0 id lower ∷ root_justification (totalizer bound) t 0 id upper ∷ []))
+    omega (arith, length-append (nodes_justifications bound ts id) (least_justification bound t 0 id lower ∷ root_justification (totalizer bound) t 0 id upper ∷ []))

@@ -1,4 +1,4 @@
--- The steps of a totalizer's derivation as the code has their parts.
+-- The clauses from parts to outputs of an exact sum's derivation, as the code has them.
 use Rattle.std.proofs.Common.{◌≡◌, ◌≤◌, ◌+◌, ◌-◌, ◌*◌, ◌++◌, ℕ, zero, suc, List, [], ◌∷◌, length, map, min, refl, sym, ap, ◌∙◌, subst, arith}
 use Rattle.std.specs.List.{range_with_len}
 use Rattle.std.proofs.lemmas.List.FromFn.{length-map-range_with_len}
@@ -8,7 +8,7 @@ use Rattle.pb_norm.specs.Constraints.{weights}
 use Rattle.pb_derive.specs.Claims.{claim_steps}
 use Rattle.pb_derive.specs.Justifications.{Justification, by_justification}
 use Rattle.pb_family.proofs.Looping.{ArePieces}
-use Rattle.pb_family.proofs.SameSteps.{HaveSameSteps, same_append}
+use Rattle.pb_family.proofs.SameSteps.{HaveSameSteps}
 use Rattle.pb_family.proofs.Sequence.{justification_piece, justification_pieces}
 use Rattle.pb_tree.specs.Pairs.{pair_of}
 use Rattle.pb_tree.specs.Scheme.{values, fresh_of}
@@ -23,13 +23,11 @@ use Rattle.pb_totalizer.specs.TotalizerSteps.{totalizer_pairs}
 use Rattle.pb_totalizer.specs.declared.node_ids.NodeIds.{NodeIds}
 use Rattle.pb_totalizer.specs.declared.node_ids.Source.{Source}
 use Rattle.pb_totalizer.specs.declared.polarity.Direction.{Direction}
-use Rattle.pb_totalizer.specs.declared.polarity.Polarity.TheVariants.{Up}
 use Rattle.pb_totalizer.specs.laws.ByPairs.{partner_bounds}
 use Rattle.pb_totalizer.specs.laws.PairRows.{rows_by_pairs}
 use Rattle.pb_totalizer.specs.inner.Numbers.{most_by, numbers_by}
 use Rattle.pb_totalizer.specs.inner.Rows.{one_beside, row_beside}
 use Rattle.pb_totalizer.specs.inner.Sources.{ids_from, some_ids, weakened_at, pair_given, node_given, root_given}
-use Rattle.pb_totalizer.specs.laws.Polarity.{justifications_by, all_justifications}
 
 -- ---- rows
 
@@ -109,11 +107,3 @@ pub root_is : (bound : ℕ) (ts : List Term) (id own : ℕ) (root : Source) → 
 root_is bound ts id own root same =
     let ids : some_ids root (bound + 1) ≡ output_ids (totalizer bound) (tree_of (weights ts)) id (bound + 1) = some_from root (bound + 1) (omega arith) ∙ ap (λ (f : ℕ → List ℕ). f (bound + 1)) same in
     ap (λ (is : List ℕ). named (is ++ own ∷ []) []) ids
-
--- all clauses are those of the nodes and that of the root
-pub root_given_last : (bound : ℕ) (ts : List Term) (id own : ℕ) (root : Source) → ids_from root ≡ output_ids (totalizer bound) (tree_of (weights ts)) id
-    → HaveSameSteps (justifications_by Up bound ts id ++ root_given root (bound + 1) own ∷ []) (all_justifications bound ts id own)
-root_given_last bound ts id own root same =
-    let last = root_justification (totalizer bound) (tree_of (weights ts)) 0 id own in
-    same_append (justifications_by Up bound ts id) (justifications_by Up bound ts id) (root_given root (bound + 1) own ∷ []) (last ∷ []) (record { count = refl; steps = λ next. refl })
-    (subst (λ (r : Justification). HaveSameSteps (r ∷ []) (last ∷ [])) (sym (root_is bound ts id own root same)) (bare_same (last ∷ [])))

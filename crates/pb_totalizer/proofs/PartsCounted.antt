@@ -8,21 +8,18 @@ use Rattle.pb_tree.specs.Scheme.{fresh_of, own_count_of, clause_count_of}
 use Rattle.pb_tree.specs.Tree.{Tree, node, tree_of}
 use Rattle.pb_tree.proofs.AlongJustifications.{clause_in}
 use Rattle.pb_tree.proofs.Extending.{along_counted}
-use Rattle.pb_tree.proofs.TreeCounts.{justifications_counted}
 use Rattle.pb_totalizer.specs.Exact.{exact_along, exact_own, limit_count, limit_count_of, limits_along, outputs_of}
 use Rattle.pb_totalizer.specs.Totalizer.{node_clause_count, totalizer}
-use Rattle.pb_totalizer.specs.TotalizerSteps.{totalizer_pairs}
 use Rattle.pb_totalizer.specs.declared.polarity.Polarity.{Polarity}
 use Rattle.pb_totalizer.specs.declared.polarity.Polarity.TheVariants.{Up, Both}
+use Rattle.pb_totalizer.specs.inner.ExactSources.{nodes_justifications}
 use Rattle.pb_totalizer.specs.inner.Wholes.{IsWhole}
-use Rattle.pb_totalizer.specs.laws.ByPairs.{totalizer_by_pairs}
 use Rattle.pb_totalizer.specs.laws.Counting.{few_along, own_in_grid, small}
 use Rattle.pb_totalizer.specs.laws.ExactReifications.{own_counted}
 use Rattle.pb_totalizer.specs.laws.ExactJustifications.{exact_along_clauses}
 use Rattle.pb_totalizer.specs.laws.LimitCounts.{limits_in_grid, split_count}
 use Rattle.pb_totalizer.specs.laws.Shares.{few_shared}
-use Rattle.pb_totalizer.specs.laws.TotalizerLaws.{IsCapped, totalizer_lawful}
-use Rattle.pb_totalizer.specs.laws.Polarity.{clause_count_by, own_count, own_count_by, justifications_by}
+use Rattle.pb_totalizer.specs.laws.Polarity.{clause_count_by, own_count, own_count_by}
 use Rattle.pb_totalizer.proofs.Halved.{Halved}
 
 -- ---- by the halves
@@ -65,20 +62,13 @@ halves_fit polarity bound {lefts = lefts} {rights} h few =
     let right : length rights < 2 ^ 31 = omega arith in
     ((small bound lefts left_some left).fresh, (small bound rights right_some right).fresh, omega (arith, few_clauses polarity bound lefts left_some left, few_clauses polarity bound rights right_some right))
 
--- as many justifications as the ids have room for
-pub few_justifications : (polarity : Polarity) (bound : ℕ) (ts : List Term) (id : ℕ) {first : ℕ} → IsWhole ts bound first → length (justifications_by polarity bound ts id) ≤ 3 * 2 ^ 59
-few_justifications Up bound ts id whole =
+-- of an exact sum: as many justifications as the ids have room for
+pub few_justifications : (bound : ℕ) (ts : List Term) (id : ℕ) {first : ℕ} → IsWhole ts bound first → length (nodes_justifications bound ts id) ≤ 3 * 2 ^ 59
+few_justifications bound ts id whole =
     let few : fresh_of (totalizer bound) (tree_of (weights ts)) ≤ 2 ^ 31 = omega (arith, whole.fits) in
     let s = totalizer bound in
     let t = tree_of (weights ts) in
-    let count : length (justifications_by Up bound ts id) ≡ clause_count_of s t = justifications_counted s (IsCapped bound) (totalizer_lawful bound) (totalizer_pairs (bound + 1)) (totalizer_by_pairs bound) t 0 id (λ u h. let one : 1 ≤ 1 = omega arith in one) in
-    let room : clause_count_of s t ≤ 3 * 2 ^ 58 = few_shared bound (own_count_of s) (own_in_grid bound) t whole.from few in
-    omega (arith, count, room)
-few_justifications Both bound ts id whole =
-    let few : fresh_of (totalizer bound) (tree_of (weights ts)) ≤ 2 ^ 31 = omega (arith, whole.fits) in
-    let s = totalizer bound in
-    let t = tree_of (weights ts) in
-    let rs = justifications_by Both bound ts id in
+    let rs = nodes_justifications bound ts id in
     let count : length rs ≡ length (exact_along bound t 0) = sym (length-map rs clause_in) ∙ ap length (exact_along_clauses bound t 0 id) in
     omega (
       arith,

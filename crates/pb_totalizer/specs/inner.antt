@@ -1,7 +1,14 @@
+pub mod ExactSources
+pub mod Joints
 pub mod LimitSources
 pub mod NodeClauses
 pub mod Numbers
 pub mod Outputs
+pub mod Phases
+pub mod RowParts
+pub mod RowPieces
+pub mod Roots
 pub mod Rows
+pub mod Sides
 pub mod Sources
 pub mod Wholes

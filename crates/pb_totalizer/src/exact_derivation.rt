@@ -7,15 +7,29 @@ ghost use Rattle.pb_totalizer.specs.ExactSteps.{exact_steps};
 ghost use Rattle.pb_totalizer.specs.inner.LimitSources.{least_given};
 ghost use Rattle.pb_totalizer.specs.inner.Sources.{root_given};
 
-use crate::derivation::derive_root;
+use crate::claims::first_id;
 use crate::handing::derive_nodes;
 use crate::limit_claims::second_id;
 use crate::node_ids::Source;
-use crate::polarity::Polarity;
 use crate::whole::Whole;
 use pb_family::{SinkResult, StepSink, derive_by};
 use pb_tree::{TreeClaims, derive_along};
 use std::alloc::Global;
+
+/// That not so many leaves are true, by the sum's own constraint.
+fn derive_root<T: StepSink>(
+    alloc: Global,
+    root: Source,
+    number: u64,
+    own: u64,
+    sink: &mut T,
+) -> SinkResult
+    requires small { number < 2 ^ 33 }
+    requires few { (T.state sink.old).next + 1 < 2 ^ 62 }
+    ensures { HandsJustifications (root_given root number own ∷ []) result (T.state sink.old) (T.state sink.new) }
+{
+    derive_by(alloc, first_id(root, number), None, own, &[], sink)
+}
 
 /// That so many leaves are true and no more, by the sum's constraints from below and from above.
 fn derive_ends<T: StepSink>(
@@ -44,7 +58,7 @@ struct Exactly<'a> {
 }
 
 impl<'a> TreeClaims<Whole<'a>> for Exactly<'a> {
-    ghost use Rattle.pb_totalizer.specs.laws.Polarity.{exact_all_justifications};
+    ghost use Rattle.pb_totalizer.specs.inner.ExactSources.{exact_all_justifications};
 
     ghost sum = { λ d. d.whole.now };
 
@@ -55,7 +69,7 @@ impl<'a> TreeClaims<Whole<'a>> for Exactly<'a> {
     }
 
     fn claim<T: StepSink>(&self, alloc: Global, id: u64, sink: &mut T) -> SinkResult {
-        let root = derive_nodes(alloc, Polarity::Both, self.whole, id, sink)?;
+        let root = derive_nodes(alloc, self.whole, id, sink)?;
         let number = self.whole.bound;
         derive_ends(
             alloc,

@@ -1,13 +1,12 @@
-//! The clauses of a totalizer's derivation, part by part.
+//! The clauses of the derivation of an exact sum, part by part.
 ghost use Rattle.std.specs.Prelude.{◌<◌, ◌+◌, ◌*◌, ◌^◌, length, IfOk};
 ghost use Rattle.pb_family.specs.HandedJustifications.{HandsJustifications};
 ghost use Rattle.pb_tree.specs.Walks.{fresh_over};
 ghost use Rattle.pb_totalizer.specs.Totalizer.{totalizer};
+ghost use Rattle.pb_totalizer.specs.inner.ExactSources.{nodes_justifications};
 ghost use Rattle.pb_totalizer.specs.inner.Sources.{StandAt};
-ghost use Rattle.pb_totalizer.specs.laws.Polarity.{justifications_by};
 
 use crate::node_ids::{Handed, IdRow, NodeIds, Source};
-use crate::polarity::Polarity;
 use crate::row_claims::derive_own;
 use crate::whole::Whole;
 use pb_base::Term;
@@ -15,11 +14,10 @@ use pb_family::{SinkFault, SinkResult, StepSink};
 use pb_tree::{Parts, Placed, Walk, walk_along};
 use std::alloc::Global;
 
-/// The clauses along the tree of a totalizer, whose variables' constraints have the ids from `id` on.
+/// The clauses along the tree of an exact sum, whose variables' constraints have the ids from `id` on.
 #[derive(Clone, Copy)]
 struct Claims<'a> {
     whole: &'a Whole<'a>,
-    polarity: Polarity,
     id: u64,
     ghost ids: { id + 2 * fresh_over (totalizer whole.now.bound) whole.now.terms.now < 2 ^ 62 },
 }
@@ -31,9 +29,9 @@ impl<'a, T: StepSink> Walk<T> for Claims<'a> {
     ghost use Rattle.pb_family.proofs.FlatPieces.{justifications_then};
     ghost use Rattle.pb_tree.specs.Walks.{fresh_over};
     ghost use Rattle.pb_tree.proofs.HandingLaws.{claimed_stop, less_claimed, claimed_room};
+    ghost use Rattle.pb_totalizer.specs.ExactSteps.{own_justifications};
     ghost use Rattle.pb_totalizer.specs.Totalizer.{totalizer};
     ghost use Rattle.pb_totalizer.specs.inner.Sources.{StandAt};
-    ghost use Rattle.pb_totalizer.specs.laws.Polarity.{own_justifications_by};
 
     type Part = Handed;
 
@@ -45,7 +43,7 @@ impl<'a, T: StepSink> Walk<T> for Claims<'a> {
 
     ghost most = { λ w. fresh_over (totalizer w.whole.now.bound) w.whole.now.terms.now };
 
-    ghost own = { λ w l r before. own_justifications_by w.polarity w.whole.now.bound l r before (w.id + 2 * before) };
+    ghost own = { λ w l r before. own_justifications w.whole.now.bound l r before (w.id + 2 * before) };
 
     ghost hands = { λ justifications result old new. HandsJustifications justifications result (T.state old) (T.state new) };
 
@@ -81,7 +79,7 @@ impl<'a, T: StepSink> Walk<T> for Claims<'a> {
             count,
             cap,
         };
-        derive_own(alloc, self.polarity, &node, sink)?;
+        derive_own(alloc, &node, sink)?;
         Ok(Placed {
             part: Handed {
                 source: Source::Fresh(IdRow { first: own }),
@@ -103,20 +101,15 @@ impl<'a, T: StepSink> Walk<T> for Claims<'a> {
 /// The clauses of all nodes, and what the root leaves.
 pub fn derive_nodes<T: StepSink>(
     alloc: Global,
-    polarity: Polarity,
     whole: &Whole,
     id: u64,
     sink: &mut T,
 ) -> SinkResult<Placed<Handed>>
     requires ids { id + 2 * fresh_over (totalizer whole.now.bound) whole.now.terms.now < 2 ^ 62 }
-    requires room { (T.state sink.old).next + length (justifications_by polarity whole.now.bound whole.now.terms.now id) < 2 ^ 62 }
-    ensures hands { HandsJustifications (justifications_by polarity whole.now.bound whole.now.terms.now id) result (T.state sink.old) (T.state sink.new) }
+    requires room { (T.state sink.old).next + length (nodes_justifications whole.now.bound whole.now.terms.now id) < 2 ^ 62 }
+    ensures hands { HandsJustifications (nodes_justifications whole.now.bound whole.now.terms.now id) result (T.state sink.old) (T.state sink.new) }
     ensures stand { IfOk result (λ root. StandAt whole.now.bound whole.now.terms.now id root.part) }
 {
-    let claims = Claims {
-        whole,
-        polarity,
-        id,
-    };
+    let claims = Claims { whole, id };
     walk_along(alloc, &claims, whole.terms, 0, sink)
 }

@@ -1,20 +1,30 @@
 //! Totalizers (Bailleux and Boufkhad 2003): at most so many of some literals are true, or exactly so many.
 #![tactic(auto)]
 
+mod along;
 mod claims;
 mod derivation;
 mod emission;
 mod exact;
 mod exact_derivation;
+mod fresh_row;
 mod handing;
+mod joint;
+mod joint_clauses;
+mod joint_meanings;
+mod joint_sum;
 mod limit_claims;
 mod limits;
 mod node;
 mod node_ids;
 mod numbers;
 mod outputs;
+mod phase;
 mod polarity;
+mod root;
 mod row_claims;
+mod row_lines;
+mod side;
 mod size;
 mod totalizer;
 mod whole;

@@ -1,15 +1,15 @@
 //! The clauses of a node, by the constraints that they follow from.
 ghost use Rattle.std.specs.Prelude.{◌≤◌, ◌<◌, ◌+◌, ◌^◌, ◌∷◌, [], length};
 ghost use Rattle.pb_family.specs.HandedJustifications.{HandsJustifications};
+ghost use Rattle.pb_totalizer.specs.inner.ExactSources.{own_beside};
 ghost use Rattle.pb_totalizer.specs.inner.Numbers.{GoTogether, most_by};
 ghost use Rattle.pb_totalizer.specs.inner.Rows.{one_beside, row_beside, rows_beside};
-ghost use Rattle.pb_totalizer.specs.laws.Polarity.{own_beside};
 
 use crate::claims::derive_pair;
 use crate::limit_claims::derive_limit;
 use crate::node_ids::NodeIds;
 use crate::numbers::{Counts, numbers};
-use crate::polarity::{Direction, Polarity};
+use crate::polarity::Direction;
 use pb_family::{SinkResult, StepSink};
 use std::alloc::Global;
 
@@ -73,19 +73,11 @@ fn derive_rows<T: StepSink>(
     Ok(())
 }
 
-/// A node's own clauses.
-pub fn derive_own<T: StepSink>(
-    alloc: Global,
-    polarity: Polarity,
-    node: &NodeIds,
-    sink: &mut T,
-) -> SinkResult
-    requires { (T.state sink.old).next + length (own_beside polarity node.now) < 2 ^ 62 }
-    ensures { HandsJustifications (own_beside polarity node.now) result (T.state sink.old) (T.state sink.new) }
+/// A node's own clauses, from its parts to its outputs and back.
+pub fn derive_own<T: StepSink>(alloc: Global, node: &NodeIds, sink: &mut T) -> SinkResult
+    requires { (T.state sink.old).next + length (own_beside node.now) < 2 ^ 62 }
+    ensures { HandsJustifications (own_beside node.now) result (T.state sink.old) (T.state sink.new) }
 {
     derive_rows(alloc, Direction::Up, node, sink)?;
-    match polarity {
-        Polarity::Up => Ok(()),
-        Polarity::Both => derive_rows(alloc, Direction::Down, node, sink),
-    }
+    derive_rows(alloc, Direction::Down, node, sink)
 }

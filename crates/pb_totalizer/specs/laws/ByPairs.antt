@@ -28,7 +28,7 @@ sum_by_pair : (cap : ℕ) (f g h : ℕ → Lit) (i j : ℕ) → i + j ≤ cap �
 sum_by_pair cap f g h i j le =
     ap (λ (n : ℕ). unless_none f i ++ (unless_none g j ++ h n ∷ [])) (let e : i + j ≡ min (i + j) cap = omega arith in e)
 
-pair_bounds : (cap : ℕ) (us vs : List ℕ) (p : Pair) → Contains (totalizer_pairs cap us vs) p → (p.left ≤ length us) × (p.right ≤ length vs) × (1 ≤ p.left + p.right) × (p.left + p.right ≤ cap)
+pub pair_bounds : (cap : ℕ) (us vs : List ℕ) (p : Pair) → Contains (totalizer_pairs cap us vs) p → (p.left ≤ length us) × (p.right ≤ length vs) × (1 ≤ p.left + p.right) × (p.left + p.right ≤ cap)
 pair_bounds cap us vs p h =
     let found = row_cases pair_of (is_within cap) (length us) (length vs) p h in
     let bounds = within_bounds cap found.0 found.1 found.4 in

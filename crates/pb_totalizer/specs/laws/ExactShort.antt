@@ -43,8 +43,8 @@ use Rattle.pb_totalizer.specs.laws.ExactJustifications.{pair_bounds, after_all, 
 use Rattle.pb_totalizer.specs.laws.LimitCounts.{limits_in_grid, size_split}
 use Rattle.pb_totalizer.specs.laws.Limits.{limits_are}
 use Rattle.pb_totalizer.specs.laws.Shares.{few_shared}
+use Rattle.pb_totalizer.specs.laws.Sparing.{totalizer_sparing}
 use Rattle.pb_totalizer.specs.laws.TotalizerLaws.{IsCapped, value_from, totalizer_lawful}
-use Rattle.pb_totalizer.specs.laws.TotalizerShort.{totalizer_sparing}
 
 -- ---- how many variables go
 

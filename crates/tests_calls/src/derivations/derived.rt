@@ -61,8 +61,9 @@ const CASES: &[(Kind, &str, &str)] = &[
     (Kind::Ladder, SIX, "51: 5 5 0 0"),
     (Kind::Grid, SIX, "54: 7 6 0 0"),
     (Kind::Counter, FOUR, "67: 5 5 0 0"),
-    (Kind::Totalizer, FOUR, "52: 7 9 0 0"),
-    (Kind::Totalizer, FIVE, "80: 11 14 0 0"),
+    // No clause has need of what says nothing of an output, nor of what an output of the root below the last one means where it is true.
+    (Kind::Totalizer, FOUR, "81: 12 19 0 0"),
+    (Kind::Totalizer, FIVE, "124: 18 28 0 0"),
     (Kind::Diagram, FALLING, "22: 3 3 0 0"),
     (Kind::Diagram, MEETING, "34: 5 5 0 0"),
     (Kind::Diagram, MIXED, "39: 6 6 0 0"),

@@ -4,8 +4,7 @@ use Rattle.pb_family.proofs.Deriving.{steps_same}
 use Rattle.pb_tree.proofs.TreePhases.{part_reifications, same_phases}
 use Rattle.pb_totalizer.specs.ExactSteps.{exact_justifications}
 use Rattle.pb_totalizer.specs.Totalizer.{totalizer}
-use Rattle.pb_totalizer.specs.declared.polarity.Polarity.TheVariants.{Both}
-use Rattle.pb_totalizer.specs.laws.Polarity.{exact_all_justifications}
+use Rattle.pb_totalizer.specs.inner.ExactSources.{exact_all_justifications}
 use Rattle.pb_totalizer.proofs.ExactHanded.{exact_all_same, exact_all_counted}
 use Rattle.pb_totalizer.proofs.PartsCounted.{few_justifications}
 use Rattle.pb_totalizer.proofs.exact_derivation.derive_exact.Goals as goal
@@ -13,7 +12,7 @@ use Rattle.pb_totalizer.proofs.exact_derivation.derive_exact.Goals as goal
 pub derive_along-requires-clause-few : goal.derive_along-requires-clause-few
 derive_along-requires-clause-few g c = λ id.
     let w = c.args.whole.now in
-    omega (arith, exact_all_counted w.bound w.terms.now id c.args.lower c.args.upper, few_justifications Both w.bound w.terms.now id w.whole)
+    omega (arith, exact_all_counted w.bound w.terms.now id c.args.lower c.args.upper, few_justifications w.bound w.terms.now id w.whole)
 
 pub returns : goal.returns
 returns g c =

@@ -6,9 +6,9 @@ use Rattle.pb_derive.specs.Justifications.{Justification, by_justification}
 use Rattle.pb_family.proofs.Deriving.{steps_same}
 use Rattle.pb_tree.specs.Tree.{tree_of}
 use Rattle.pb_tree.proofs.Walking.{from_id}
+use Rattle.pb_totalizer.specs.ExactSteps.{own_justifications}
 use Rattle.pb_totalizer.specs.Totalizer.{totalizer}
 use Rattle.pb_totalizer.specs.inner.Sources.{StandAt}
-use Rattle.pb_totalizer.specs.laws.Polarity.{own_justifications_by}
 use Rattle.pb_totalizer.proofs.WholeTrees.{whole_suits}
 use Rattle.pb_totalizer.proofs.handing.derive_nodes.Goals as goal
 
@@ -21,12 +21,12 @@ walk_along-requires-clause-suits g c = whole_suits c.args.whole.now.whole
 pub walk_along-requires-clause-room : goal.walk_along-requires-clause-room
 walk_along-requires-clause-room g c =
     let w = c.args.whole.now in
-    omega (arith, ap length (from_id (totalizer w.bound) (own_justifications_by c.args.polarity w.bound) (tree_of (weights w.terms.now)) c.args.id), c.requires.room)
+    omega (arith, ap length (from_id (totalizer w.bound) (own_justifications w.bound) (tree_of (weights w.terms.now)) c.args.id), c.requires.room)
 
 pub returns-clause-hands : goal.returns-clause-hands
 returns-clause-hands g c =
     let w = c.args.whole.now in
-    let own = own_justifications_by c.args.polarity w.bound in
+    let own = own_justifications w.bound in
     let old = g.T.StepSink.state c.args.sink.now in
     steps_same c.walk_along.result _ _ old _ (ap (λ (rs : List Justification). claim_steps old.next (map by_justification rs)) (from_id (totalizer w.bound) own (tree_of (weights w.terms.now)) c.args.id)) c.walk_along.ensures.hands
 

@@ -30,7 +30,7 @@ derive_own-requires g c =
     let parts = c.args.parts.now in
     let self = c.args.self.now in
     let own = node_of c.requires.parts c.requires.suits c.min-count.ensures c.requires.left.count c.requires.right.count in
-    let same = node_same self.whole.now.bound c.requires.parts self.id (self.id + 2 * parts.next) refl self.polarity c.min-count.result parts.left.now parts.right.now own.own c.requires.left c.requires.right in
+    let same = node_same self.whole.now.bound c.requires.parts self.id (self.id + 2 * parts.next) refl c.min-count.result parts.left.now parts.right.now own.own c.requires.left c.requires.right in
     omega (arith, same.count, c.requires.room)
 
 pub returns-in_err-derive_own-clause-hands : goal.returns-in_err-derive_own-clause-hands
@@ -40,7 +40,7 @@ returns-in_err-derive_own-clause-hands g c =
     let old = g.T.StepSink.state c.args.sink.now in
     let new = g.T.StepSink.state c.derive_own.new.sink in
     let own = node_of c.requires.parts c.requires.suits c.min-count.ensures c.requires.left.count c.requires.right.count in
-    let same = node_same self.whole.now.bound c.requires.parts self.id (self.id + 2 * parts.next) refl self.polarity c.min-count.result parts.left.now parts.right.now own.own c.requires.left c.requires.right in
+    let same = node_same self.whole.now.bound c.requires.parts self.id (self.id + 2 * parts.next) refl c.min-count.result parts.left.now parts.right.now own.own c.requires.left c.requires.right in
     steps_same c.from_residual.result _ _ old new (same.steps old.next)
     (steps_stopped c.from_residual.result _ _ old new c.from_residual.ensures.1 c.in_err-derive_own.ensures)
 
@@ -51,7 +51,7 @@ returns-clause-hands g c =
     let old = g.T.StepSink.state c.args.sink.now in
     let new = g.T.StepSink.state c.derive_own.new.sink in
     let own = node_of c.requires.parts c.requires.suits c.min-count.ensures c.requires.left.count c.requires.right.count in
-    let same = node_same self.whole.now.bound c.requires.parts self.id (self.id + 2 * parts.next) refl self.polarity c.min-count.result parts.left.now parts.right.now own.own c.requires.left c.requires.right in
+    let same = node_same self.whole.now.bound c.requires.parts self.id (self.id + 2 * parts.next) refl c.min-count.result parts.left.now parts.right.now own.own c.requires.left c.requires.right in
     let done : Result (Unit {0}) SinkFault = Ok tt in
     steps_same done _ _ old new (same.steps old.next) c.in_ok-derive_own.ensures
 

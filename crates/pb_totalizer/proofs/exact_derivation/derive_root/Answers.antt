@@ -1,7 +1,7 @@
 use Rattle.std.proofs.Common.{◌++◌, ◌∷◌, []}
 use Rattle.pb_family.specs.Derivations.{claimed}
 use Rattle.pb_family.proofs.Deriving.{steps_same}
-use Rattle.pb_totalizer.proofs.derivation.derive_root.Goals as goal
+use Rattle.pb_totalizer.proofs.exact_derivation.derive_root.Goals as goal
 
 pub returns : goal.returns
 returns g c =

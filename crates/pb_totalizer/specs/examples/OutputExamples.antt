@@ -1,0 +1,176 @@
+-- Worked examples of a totalizer's derivation over the outputs of its parts, which the check computes.
+use Rattle.std.specs.Prelude.{◌≡◌, ℕ, [], ◌∷◌, map, codes, refl}
+use Rattle.std.specs.Fmt.{digits}
+use Rattle.std.specs.List.{range_with_len}
+use Rattle.pb_norm.specs.BoundedSums.{BoundedSum}
+use Rattle.pb_steps.specs.StepText.{step_line}
+use Rattle.pb_family.specs.Fresh.{positive_of}
+use Rattle.pb_tree.specs.Tree.{split_within}
+use Rattle.pb_totalizer.specs.TotalizerSteps.{totalizer_steps}
+
+-- at most so many of the first variables
+abbrev at_most_of : ℕ → ℕ → BoundedSum
+at_most_of bound n = record { terms = map (λ v. record { coef = 1; lit = positive_of v }) (range_with_len 1 n); bound = bound }
+
+-- at most one of two
+pub one_of_two_lines :
+    map step_line (totalizer_steps (at_most_of 1 2) 3 1 2)
+    ≡ (codes "red +1 ~x3 +1 x1 +1 x2 >= 1 ; x3 -> 0"
+    ∷ codes "red +2 x3 +1 ~x1 +1 ~x2 >= 2 ; x3 -> 1"
+    ∷ codes "red +2 ~x4 +1 x1 +1 x2 >= 2 ; x4 -> 0"
+    ∷ codes "red +1 x4 +1 ~x1 +1 ~x2 >= 1 ; x4 -> 1"
+    ∷ codes "pol x1"
+    ∷ codes "pol x1 x1 w"
+    ∷ codes "pol x2"
+    ∷ codes "pol x2 x2 w"
+    ∷ codes "pol 3 6 + 9 + 2 d"
+    ∷ codes "out 10"
+    ∷ codes "pol 3 7 + 8 + 2 d"
+    ∷ codes "out 11"
+    ∷ codes "pol 5 7 + 9 + 2 d"
+    ∷ codes "out 12"
+    ∷ codes "del 6 7 8 9"
+    ∷ codes "pol 4 1 + 2 d"
+    ∷ codes "out 13"
+    ∷ codes "del 2 3"
+    ∷ codes "del 4 5"
+    ∷ [])
+unfolding digits split_within
+one_of_two_lines = refl
+
+-- at most one of three
+pub one_of_three_lines :
+    map step_line (totalizer_steps (at_most_of 1 3) 4 1 2)
+    ≡ (codes "red +1 ~x4 +1 x2 +1 x3 >= 1 ; x4 -> 0"
+    ∷ codes "red +2 x4 +1 ~x2 +1 ~x3 >= 2 ; x4 -> 1"
+    ∷ codes "red +2 ~x5 +1 x2 +1 x3 >= 2 ; x5 -> 0"
+    ∷ codes "red +1 x5 +1 ~x2 +1 ~x3 >= 1 ; x5 -> 1"
+    ∷ codes "red +1 ~x6 +1 x1 +1 x4 +1 x5 >= 1 ; x6 -> 0"
+    ∷ codes "red +3 x6 +1 ~x1 +1 ~x4 +1 ~x5 >= 3 ; x6 -> 1"
+    ∷ codes "red +2 ~x7 +1 x1 +1 x4 +1 x5 >= 2 ; x7 -> 0"
+    ∷ codes "red +2 x7 +1 ~x1 +1 ~x4 +1 ~x5 >= 2 ; x7 -> 1"
+    ∷ codes "pol 2 1 * 4 + 2 d"
+    ∷ codes "pol x2"
+    ∷ codes "pol x2 x2 w"
+    ∷ codes "pol x3"
+    ∷ codes "pol x3 x3 w"
+    ∷ codes "pol 3 11 + 14 + 2 d"
+    ∷ codes "out 15"
+    ∷ codes "pol 3 12 + 13 + 2 d"
+    ∷ codes "out 16"
+    ∷ codes "pol 5 12 + 14 + 2 d"
+    ∷ codes "out 17"
+    ∷ codes "del 11 12 13 14"
+    ∷ codes "pol x1"
+    ∷ codes "pol x1 x1 w"
+    ∷ codes "pol x4 x4 w"
+    ∷ codes "pol 20 4 3 + 2 d 1 * +"
+    ∷ codes "pol x4 x4 w"
+    ∷ codes "pol 22 x5 +"
+    ∷ codes "pol 23 x4 +"
+    ∷ codes "pol 20 23 +"
+    ∷ codes "pol 21 22 +"
+    ∷ codes "pol 7 18 + 25 + 3 d"
+    ∷ codes "out 27"
+    ∷ codes "pol 9 18 + 26 + 3 d"
+    ∷ codes "out 28"
+    ∷ codes "pol 7 19 + 24 + 3 d"
+    ∷ codes "out 29"
+    ∷ codes "pol 9 19 + 25 + 3 d"
+    ∷ codes "out 30"
+    ∷ codes "del 18 19 20 21 22 23 24 25 26"
+    ∷ codes "pol 8 10 + 1 + 2 d"
+    ∷ codes "out 31"
+    ∷ codes "del 10"
+    ∷ codes "del 2 3"
+    ∷ codes "del 4 5"
+    ∷ codes "del 6 7"
+    ∷ codes "del 8 9"
+    ∷ [])
+unfolding digits split_within
+one_of_three_lines = refl
+
+-- at most two of four
+pub two_of_four_lines :
+    map step_line (totalizer_steps (at_most_of 2 4) 5 1 2)
+    ≡ (codes "red +1 ~x5 +1 x1 +1 x2 >= 1 ; x5 -> 0"
+    ∷ codes "red +2 x5 +1 ~x1 +1 ~x2 >= 2 ; x5 -> 1"
+    ∷ codes "red +2 ~x6 +1 x1 +1 x2 >= 2 ; x6 -> 0"
+    ∷ codes "red +1 x6 +1 ~x1 +1 ~x2 >= 1 ; x6 -> 1"
+    ∷ codes "red +1 ~x7 +1 x3 +1 x4 >= 1 ; x7 -> 0"
+    ∷ codes "red +2 x7 +1 ~x3 +1 ~x4 >= 2 ; x7 -> 1"
+    ∷ codes "red +2 ~x8 +1 x3 +1 x4 >= 2 ; x8 -> 0"
+    ∷ codes "red +1 x8 +1 ~x3 +1 ~x4 >= 1 ; x8 -> 1"
+    ∷ codes "red +1 ~x9 +1 x5 +1 x6 +1 x7 +1 x8 >= 1 ; x9 -> 0"
+    ∷ codes "red +4 x9 +1 ~x5 +1 ~x6 +1 ~x7 +1 ~x8 >= 4 ; x9 -> 1"
+    ∷ codes "red +2 ~x10 +1 x5 +1 x6 +1 x7 +1 x8 >= 2 ; x10 -> 0"
+    ∷ codes "red +3 x10 +1 ~x5 +1 ~x6 +1 ~x7 +1 ~x8 >= 3 ; x10 -> 1"
+    ∷ codes "red +3 ~x11 +1 x5 +1 x6 +1 x7 +1 x8 >= 3 ; x11 -> 0"
+    ∷ codes "red +2 x11 +1 ~x5 +1 ~x6 +1 ~x7 +1 ~x8 >= 2 ; x11 -> 1"
+    ∷ codes "pol 2 1 * 4 + 2 d"
+    ∷ codes "pol 6 1 * 8 + 2 d"
+    ∷ codes "pol x1"
+    ∷ codes "pol x1 x1 w"
+    ∷ codes "pol x2"
+    ∷ codes "pol x2 x2 w"
+    ∷ codes "pol 3 18 + 21 + 2 d"
+    ∷ codes "out 22"
+    ∷ codes "pol 3 19 + 20 + 2 d"
+    ∷ codes "out 23"
+    ∷ codes "pol 5 19 + 21 + 2 d"
+    ∷ codes "out 24"
+    ∷ codes "del 18 19 20 21"
+    ∷ codes "pol x3"
+    ∷ codes "pol x3 x3 w"
+    ∷ codes "pol x4"
+    ∷ codes "pol x4 x4 w"
+    ∷ codes "pol 7 25 + 28 + 2 d"
+    ∷ codes "out 29"
+    ∷ codes "pol 7 26 + 27 + 2 d"
+    ∷ codes "out 30"
+    ∷ codes "pol 9 26 + 28 + 2 d"
+    ∷ codes "out 31"
+    ∷ codes "del 25 26 27 28"
+    ∷ codes "pol x5 x5 w"
+    ∷ codes "pol 32 4 3 + 2 d 1 * +"
+    ∷ codes "pol x5 x5 w"
+    ∷ codes "pol 34 x6 +"
+    ∷ codes "pol 35 x5 +"
+    ∷ codes "pol 32 35 +"
+    ∷ codes "pol 33 34 +"
+    ∷ codes "pol x7 x7 w"
+    ∷ codes "pol 39 8 7 + 2 d 1 * +"
+    ∷ codes "pol x7 x7 w"
+    ∷ codes "pol 41 x8 +"
+    ∷ codes "pol 42 x7 +"
+    ∷ codes "pol 39 42 +"
+    ∷ codes "pol 40 41 +"
+    ∷ codes "pol 11 36 + 44 + 4 d"
+    ∷ codes "out 46"
+    ∷ codes "pol 13 36 + 45 + 4 d"
+    ∷ codes "out 47"
+    ∷ codes "pol 11 37 + 43 + 4 d"
+    ∷ codes "out 48"
+    ∷ codes "pol 13 37 + 44 + 4 d"
+    ∷ codes "out 49"
+    ∷ codes "pol 15 37 + 45 + 4 d"
+    ∷ codes "out 50"
+    ∷ codes "pol 13 38 + 43 + 4 d"
+    ∷ codes "out 51"
+    ∷ codes "pol 15 38 + 44 + 4 d"
+    ∷ codes "out 52"
+    ∷ codes "del 32 33 34 35 36 37 38 39 40 41 42 43 44 45"
+    ∷ codes "pol 14 16 + 17 + 1 + 3 d"
+    ∷ codes "out 53"
+    ∷ codes "del 16"
+    ∷ codes "del 17"
+    ∷ codes "del 2 3"
+    ∷ codes "del 4 5"
+    ∷ codes "del 6 7"
+    ∷ codes "del 8 9"
+    ∷ codes "del 10 11"
+    ∷ codes "del 12 13"
+    ∷ codes "del 14 15"
+    ∷ [])
+unfolding digits split_within
+two_of_four_lines = refl
