@@ -5,7 +5,6 @@ from __future__ import annotations
 import ctypes
 import functools
 import os
-import platform
 import struct
 import sys
 from typing import Dict, List
@@ -87,7 +86,7 @@ def _places() -> List[str]:
     if named:
         return [named]
     # In the repository there may be one that was built, and one that lies ready.
-    ready = "../../../release/%s-%s" % (platform.machine(), sys.platform)
+    ready = "../../../release/%s-%s" % (os.uname().machine, sys.platform)
     newest = sorted(_there("../../out", ready), key=os.path.getmtime, reverse=True)
     return _there("", "../../../lib") + newest + [_NAME]
 

@@ -3,8 +3,7 @@
 from __future__ import annotations
 
 from array import array
-from dataclasses import dataclass
-from typing import Dict, Iterator, List, Optional, Sequence, Union, overload
+from typing import Dict, Iterator, List, NamedTuple, Optional, Sequence, Union, overload
 
 
 class Clauses(Sequence[List[int]]):
@@ -70,7 +69,6 @@ class Clauses(Sequence[List[int]]):
         return repr(list(self))
 
 
-@dataclass(frozen=True, repr=False)
 class Encoding:
     """The clauses of a problem, or of one constraint. `for clause in encoding` goes through them, `len(encoding)` counts them.
 
@@ -83,9 +81,23 @@ class Encoding:
     (5, 5, 6, [-5, 4, 0])
     """
 
-    variables: int
-    original: int
-    clauses: Clauses
+    def __init__(self, variables: int, original: int, clauses: Clauses) -> None:
+        self._parts = variables, original, clauses
+
+    @property
+    def variables(self) -> int:
+        """The last variable that is taken."""
+        return self._parts[0]
+
+    @property
+    def original(self) -> int:
+        """The variables before those of products and the fresh ones."""
+        return self._parts[1]
+
+    @property
+    def clauses(self) -> Clauses:
+        """The clauses in order, each as a list of its literals."""
+        return self._parts[2]
 
     @property
     def integers(self) -> memoryview:
@@ -104,12 +116,17 @@ class Encoding:
     def __len__(self) -> int:
         return len(self.clauses)
 
+    def __eq__(self, other: object) -> bool:
+        return isinstance(other, Encoding) and self._parts == other._parts
+
+    def __hash__(self) -> int:
+        return hash(self._parts)
+
     def __repr__(self) -> str:
         return "<Encoding: %d of %d variables, %d clauses>" % (self.original, self.variables, len(self))
 
 
-@dataclass
-class Solution:
+class Solution(NamedTuple):
     """A solution of a problem, whose every statement was tested.
 
     text: what the program says of it: its `o`, `s` and `v` lines.

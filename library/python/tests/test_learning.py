@@ -16,6 +16,7 @@ import unittest.mock
 sys.path.insert(0, os.path.join(os.path.dirname(os.path.realpath(__file__)), os.pardir))
 
 from pbcnf.tools import learning, loading  # noqa: E402
+from pbcnf.tools.children import can_learn, learn  # noqa: E402
 
 NAMES = ("x3", "x1", "rain", "x7[a]", "_b")
 
@@ -142,9 +143,9 @@ class Learning(unittest.TestCase):
         self.assertEqual(self.run_main(opb, "0", cnf, proof), ["s UNSATISFIABLE"])
         with open(cnf) as file:
             self.assertEqual(file.read(), "p cnf 2 1\n0\n")
-        run = subprocess.run(learning.command(opb, "9"), stdout=subprocess.PIPE, check=True)
+        run = subprocess.run(learn(opb, "9"), stdout=subprocess.PIPE, check=True)
         self.assertEqual(run.stdout.decode().splitlines()[-1], "s OPTIMUM FOUND")
-        self.assertEqual((learning.can_take(b" " * 2000000), learning.can_take(b" " * 2000001)), (True, False))
+        self.assertEqual((can_learn(b" " * 2000000), can_learn(b" " * 2000001)), (True, False))
 
 
 if __name__ == "__main__":

@@ -19,7 +19,6 @@ import os
 import sys
 from typing import IO, Dict, Iterator, List, Set, Tuple
 
-from pbcnf.tools.children import command_of
 from pbcnf.tools.loading import Loaded, Terms, at_most, load
 from pbcnf.tools.slacks import Propagation
 
@@ -31,8 +30,6 @@ _MORE = 1.1
 _VARIABLE_GROWTH = 1 / 0.95
 _CLAUSE_GROWTH = 1 / 0.999
 _GREAT = 1e100
-# A longer text is not tried.
-_LONG = 2000000
 
 
 class Derivation:
@@ -266,16 +263,6 @@ def _luby() -> Iterator[int]:
             up, value = up + 1, 1
         else:
             value *= 2
-
-
-def can_take(text: bytes) -> bool:
-    """Whether a text is not too long to be searched like this."""
-    return len(text) <= _LONG
-
-
-def command(*words: str) -> List[str]:
-    """The command that runs this with these words."""
-    return command_of("learning", list(words))
 
 
 def main(words: List[str]) -> int:

@@ -11,7 +11,7 @@ import shutil
 import subprocess
 from typing import List, Optional, Sequence
 
-from pbcnf.tools import learning
+from pbcnf.tools.children import can_learn, learn
 from pbcnf.tools.program import Program
 from pbcnf.tools.watch import Running, Watch
 from pbcnf.tools.workspace import Workspace
@@ -59,9 +59,9 @@ def start(program: Program, bound: int, options: Sequence[str], watch: Watch, wo
         variables = program.weighted(options, wcnf).variables
         if _write_older(wcnf, older, variables):
             return Descent(watch.start([clasp, older], stderr=subprocess.DEVNULL, is_heard=True))
-    if not learning.can_take(program.text):
+    if not can_learn(program.text):
         return None
-    return Descent(watch.start(learning.command(program.problem, str(bound)), stderr=subprocess.DEVNULL, is_heard=True))
+    return Descent(watch.start(learn(program.problem, str(bound)), stderr=subprocess.DEVNULL, is_heard=True))
 
 
 def _write_older(wcnf: str, older: str, variables: int) -> bool:

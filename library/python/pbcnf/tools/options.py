@@ -3,7 +3,6 @@
 from __future__ import annotations
 
 import argparse
-import difflib
 import math
 from typing import List, Mapping, Optional
 
@@ -58,6 +57,8 @@ def _why(made: argparse.ArgumentParser, left: List[str], reasons: Mapping[str, s
         return "%s: nothing but options may follow the OPB file" % word
     if option in reasons:
         return "%s: %s" % (option, reasons[option])
+    # Of no use to most calls.
+    import difflib
     known = [it for action in made._actions for it in action.option_strings]
     near = difflib.get_close_matches(option, known, 1, 0.8)
     return "there is no option %s; %s" % (option, "%s is one" % near[0] if near else "--help lists them")

@@ -11,7 +11,8 @@ from __future__ import annotations
 import os
 from typing import List, Optional, Protocol, Sequence, Tuple, Union
 
-from pbcnf.tools import learning, optimizers
+from pbcnf.tools import optimizers
+from pbcnf.tools.children import can_learn
 from pbcnf.tools.encodings import Encodings
 from pbcnf.tools.optimizers import Descent
 from pbcnf.tools.program import Program, Refutation, Solution, Summary, bound_option
@@ -108,7 +109,7 @@ class Oracle:
 
     def _learner(self, bound: Optional[int]) -> List[Attempt]:
         """Has the search over the constraints look for a refutation, if it can."""
-        if bound is None or not self._learns or not learning.can_take(self._program.text):
+        if bound is None or not self._learns or not can_learn(self._program.text):
             return []
         learner, files = Learner(self._watch), self._files(self._workspace.path("cnf.learner"), "learner")
         return [Attempt(learner, files, learner.start(self._program.problem, bound, files))]

@@ -6,7 +6,6 @@ import os
 import shutil
 import subprocess
 import sys
-from dataclasses import dataclass, field
 from typing import Iterator, List, Mapping, NamedTuple, Optional, Sequence
 
 from pbcnf.tools.children import within
@@ -45,8 +44,7 @@ def bound_option(value: int) -> str:
     return "--at-most-minus=%d" % -value if value < 0 else "--at-most=%d" % value
 
 
-@dataclass(frozen=True)
-class Summary:
+class Summary(NamedTuple):
     """What `encode` says of the CNF."""
 
     variables: int
@@ -57,15 +55,14 @@ class Summary:
     """How many of them are encoded by adders."""
 
 
-@dataclass(frozen=True)
-class Solution:
+class Solution(NamedTuple):
     """A solution that `decode` has tested against every statement."""
 
     value: Optional[int]
     """That of the objective, if there is one."""
     values: str
     """The `v` line."""
-    model: bytes = field(default=b"", repr=False, compare=False)
+    model: bytes = b""
     """The solver's text that gave it."""
 
 

@@ -8,7 +8,6 @@ import shutil
 from typing import Callable, Dict, List, Sequence, Tuple
 
 from pbcnf.tools.children import command_of
-from pbcnf.tools.hints import lrat_lines
 from pbcnf.tools.solvers import Attempt, Reasons, Verdict
 from pbcnf.tools.statuses import Status, Stop
 from pbcnf.tools.watch import Running, Watch
@@ -74,6 +73,8 @@ def _trim(attempt: Attempt, lrat: str, watch: Watch, workspace: Workspace) -> bo
 
 
 def _write(attempt: Attempt, lrat: str, pause: Callable[[], None]) -> None:
+    # It is needed only here, and by few problems.
+    from pbcnf.tools.hints import lrat_lines
     try:
         with open(lrat, "w", encoding="ascii") as file:
             file.writelines(lrat_lines(attempt.files.cnf, attempt.files.reasons, pause))

@@ -2,7 +2,6 @@
 
 from __future__ import annotations
 
-from dataclasses import dataclass
 from typing import Callable, List, NamedTuple, Optional, Protocol, Sequence, Tuple
 
 from pbcnf.tools.optimizers import Descent
@@ -32,13 +31,13 @@ class Asks(Protocol):
         """Asks it no more."""
 
 
-@dataclass
 class Found:
     """What is known so far."""
 
-    incumbent: Optional[Solution] = None
-    lower: Optional[int] = None
-    """No solution has a lesser value, where the solver is to be believed."""
+    def __init__(self, incumbent: Optional[Solution] = None, lower: Optional[int] = None) -> None:
+        self.incumbent = incumbent
+        self.lower = lower
+        """No solution has a lesser value, where the solver is to be believed."""
 
 
 class _Posed(NamedTuple):

@@ -7,12 +7,10 @@ import os
 import shlex
 import shutil
 import subprocess
-from dataclasses import dataclass
 from enum import Enum
 from typing import Dict, List, Mapping, NamedTuple, Optional, Tuple, Union
 
-from pbcnf.tools import learning
-from pbcnf.tools.children import within
+from pbcnf.tools.children import learn, within
 from pbcnf.tools.statuses import Status, Stop
 from pbcnf.tools.watch import Running, Watch
 
@@ -52,8 +50,7 @@ class Reasons(Enum):
     FRAT = ("--distill=0", "--distillbin=0", "--decbased=0", "--bva=0", "--intree=0", "--recur=0", "--schedsimp=0")
 
 
-@dataclass(frozen=True)
-class Effort:
+class Effort(NamedTuple):
     """How far a run of a solver may go, if not to its end: conflicts for those that count them, seconds for the others."""
 
     conflicts: int
@@ -158,7 +155,7 @@ class Learner:
     def start(self, problem: str, bound: int, files: Files) -> Run:
         """Starts it over a problem with a bound on its objective."""
         with open(files.model, "wb") as said:
-            command = within(_ROOM, learning.command(problem, str(bound), files.cnf, files.reasons))
+            command = within(_ROOM, learn(problem, str(bound), files.cnf, files.reasons))
             return Run(self, self._watch.start(command, stdout=said.fileno(), stderr=subprocess.DEVNULL), files.model)
 
 
