@@ -8,6 +8,7 @@ import lzma
 import os
 import random
 import signal
+import subprocess
 import sys
 import tempfile
 import threading
@@ -15,7 +16,8 @@ import time
 import unittest
 import unittest.mock
 
-sys.path.insert(0, os.path.join(os.path.dirname(os.path.realpath(__file__)), os.pardir))
+PACKAGE = os.path.join(os.path.dirname(os.path.realpath(__file__)), os.pardir)
+sys.path.insert(0, PACKAGE)
 
 from pbcnf.tools import encodings, optimizers, progress, search, seekers, sources, values, workspace  # noqa: E402
 from pbcnf.tools.program import Solution, Summary, bound_option  # noqa: E402
@@ -196,6 +198,34 @@ class Bounds(unittest.TestCase):
                 seeker.choose(0, 1000)
                 seeker.undecided()
             self.assertGreater(seeker.effort.conflicts, 10 ** 6)
+
+    def test_nearest_behind_a_refusal(self):
+        """What is refused far below the best solution has what is just below it asked for, once, and not where there are many places."""
+        seeker = seekers.FromAbove()
+        self.assertEqual(seeker.choose(0, 800), 400)
+        seeker.refused()
+        self.assertEqual(seeker.choose(401, 800), 799)
+        seeker.undecided()
+        self.assertEqual((seeker.choose(401, 800), seeker.effort), (601, seekers.FromAbove().effort))
+        seeker.refused()
+        self.assertEqual(seeker.choose(602, 800), 799)
+        seeker.found()
+        self.assertEqual(seeker.choose(602, 799), 701)
+        for lower, upper, wanted in ((0, 1000, 500), (0, 999, 998), (0, 3, 2), (0, 4, 3), (0, 1, 0)):
+            seeker = seekers.FromAbove()
+            seeker.refused()
+            self.assertEqual(seeker.choose(lower, upper), wanted)
+        # Where the half is the nearest, it gets more effort if it is not decided.
+        seeker.undecided()
+        self.assertGreater(seeker.effort.conflicts, seekers.FromAbove().effort.conflicts)
+
+    def test_best_solution_that_comes_early(self):
+        # Of 800 values the first solution found is the best: a half, and what is just below it, in the place of ten halves.
+        oracle = Drawn(random.Random(4))
+        oracle.least, oracle.weights, oracle.values, oracle.patient = 0, [1] * 800, [700], True
+        looking = search.Search(oracle, oracle.possible, lambda found: None)
+        looking.run()
+        self.assertEqual((looking.found.lower, oracle.calls), (700, 3))
 
     def test_values(self):
         draw = random.Random(2)
@@ -404,6 +434,16 @@ class Descents(Folder):
                 self.put(word, b"")
             self.assertIs(watch.wait([other, speaks]), speaks)
             self.assertEqual((speaks.take(), speaks.status), (b"", 0))
+
+
+class Start(unittest.TestCase):
+    def test_what_is_not_imported(self):
+        """Each of these takes milliseconds, and most calls need none of them."""
+        slow = {"dataclasses", "inspect", "difflib", "platform", "site", *("pbcnf.tools." + name for name in ("core", "hints", "learning", "tidy", "frat"))}
+        for name in ("solve", "minimize"):
+            words = [sys.executable, "-S", "-c", "import sys, pbcnf.tools.%s; print(*sys.modules)" % name]
+            run = subprocess.run(words, env=dict(os.environ, PYTHONPATH=PACKAGE), stdout=subprocess.PIPE, check=True)
+            self.assertEqual(slow & set(run.stdout.decode().split()), set())
 
 
 class Lines(Folder):

@@ -15,6 +15,8 @@ _FIRST_EFFORT = Effort(2000, 1.0)
 _MORE = 5
 # A bound that is not decided is taken nearer by this factor.
 _NEARER = 4
+# From so many places on it is not likely that the best solution so far is the best of all.
+_MANY = 1000
 
 
 class Seeker(Protocol):
@@ -38,28 +40,36 @@ class Seeker(Protocol):
 
 
 class FromAbove:
-    """Takes a part of what lies below the best solution, a half at most, and where that is too hard less."""
+    """Takes a part of what lies below the best solution, a half at most, and where that is too hard less. What is refused may be so
+    because the best solution cannot be bettered: then one question just below it saves all that lie between."""
 
     def __init__(self, part: int = 2) -> None:
         self.effort = _FIRST_EFFORT
         self._part = part
         self._step = 1
+        self._asks_nearest = False
 
     def choose(self, lower: int, upper: int) -> int:
         """The step is a part of the places that there are."""
-        self._step = max(1, (upper - lower) // self._part)
+        step = max(1, (upper - lower) // self._part)
+        self._asks_nearest = self._asks_nearest and 1 < step and upper - lower < _MANY
+        self._step = 1 if self._asks_nearest else step
         return upper - self._step
 
     def found(self) -> None:
         """The next step is twice as long again, up to a half."""
         self._part = max(2, self._part // 2)
+        self._asks_nearest = False
 
     def refused(self) -> None:
-        """There are fewer places now, which is enough."""
+        """The next one is the nearest, if there is any."""
+        self._asks_nearest = True
 
     def undecided(self) -> None:
         """The next one is nearer to the best solution."""
-        if self._step == 1:
+        if self._asks_nearest:
+            self._asks_nearest = False
+        elif self._step == 1:
             self.effort = self.effort.times(_MORE)
         else:
             self._part *= _NEARER
