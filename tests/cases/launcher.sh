@@ -1,4 +1,4 @@
-# The launcher ./pbcnf: it hands over to the program of release/, or to the one that was built here, with its words, streams and
+# The launcher ./pbcnf: it says how it is used, and its version; else it hands over to the program of release/, or to the one that was built here, with its words, streams and
 # status, and builds one where neither is of the sources that are there; where it cannot, that is status 70.
 . "$top/tests/lib.sh"
 
@@ -41,7 +41,7 @@ put_real() {
 }
 
 mkdir -p "$copy/crates/pbcnf/src" "$copy/crates/pbcnf_c/src" "$copy/crates/pb_words" "$copy/release"
-cp "$top/pbcnf" "$copy"
+cp "$top/pbcnf" "$top/VERSION" "$copy"
 cp "$top/release/crates" "$top/release/lib.sh" "$top/release/sources" "$copy/release"
 cp -R "$top/crates/pb_words/src" "$copy/crates/pb_words"
 text "$copy/crates.txt" 'pb_words:' 'pbcnf: pb_words' 'pbcnf_c staticlib:'
@@ -61,7 +61,7 @@ holds_first "$released/pbcnf"
 runs
 expect 2 launch
 tells 'pbcnf: usage: encode, check, decode, probe or bench'
-expect 2 launch --help
+expect 2 launch help encode
 tells 'pbcnf: usage: encode, check, decode, probe or bench'
 printf '+1 x1 >= 1' >'two words.opb'
 expect 1 launch encode 'two words.opb' o.cnf
@@ -87,6 +87,9 @@ clauses_alone 11 1
 fine bench 10 7 whole.cnf
 without_output() {
     launch "$@" >&-
+}
+to_full() {
+    launch "$@" >/dev/full
 }
 without_any() {
     launch "$@" <&- >&- 2>&-
@@ -208,8 +211,24 @@ refused 'does not run here'
 rm "$copy/$released/pbcnf"
 refused "no program for $platform"
 
+# Help and the version need no program, and are refused where they cannot be written.
+"$copy/pbcnf" --help >help
+for words in --help -h help; do
+    expect 0 launch $words
+    same help "$said"
+    tells
+done
+expect 0 grep -q '^usage: pbcnf COMMAND' help
+expect 0 launch --version
+says "pbcnf $(cat "$top/VERSION")"
+for words in --help --version; do
+    expect 5 without_output $words
+    tells 'pbcnf: write fault'
+    [ ! -w /dev/full ] || expect 5 to_full $words
+done
+
 # Words that no program would take are answered without one.
-for words in '' --help -h help 'encode --help' encode constrain 'constrain a b' '.* a b'; do
+for words in '' 'encode --help' '--help encode' '--version 1' encode constrain 'constrain a b' '.* a b'; do
     set -f
     # shellcheck disable=SC2086
     expect 2 launch $words

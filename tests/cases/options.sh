@@ -1,7 +1,9 @@
-# The options, their values and the statuses that the pages, the manual, the completion and the header have are those of the program.
+# The commands, options, values and statuses that the pages, the manual, the completion, the launcher's help and the header have are those of
+# the program.
 . "$top/tests/lib.sh"
 
-pages=("$top/README.md" "$top/docs/FORMATS.md" "$top/docs/pbcnf.1")
+"$top/pbcnf" --help >help
+pages=("$top/README.md" "$top/docs/FORMATS.md" "$top/docs/pbcnf.1" help)
 
 # A page without what only its format wants.
 plain() {
@@ -35,6 +37,8 @@ grep -o -- '--[a-z][a-z-]*' pages | sort -u >options
 completed pbcnf ''
 cp "$said" commands
 expect 0 grep -x encode commands
+sed -n 's/^  \([a-z][a-z]*\) .*/\1/p' help >helped
+same commands helped
 while read -r command; do
     name_all "$command"
     while read -r option; do
@@ -77,6 +81,7 @@ statuses_of() {
     case $1 in
     *.md) sed '/^| [0-9]/s/ | \([0-9][0-9]* | \)/\n| \1/' "$1" | sed -n 's/^| \([0-9][0-9]*\) | /\1 /p' ;;
     *.1) sed -n 's/^\([0-9]*\)|/\1 /p' "$1" ;;
+    help) tr '\n' ' ' <"$1" | sed 's/.*Exit status: //; s/\. .*//; s/, /\n/g' ;;
     *.h) sed -n '/ PBCNF_DONE = /,/^};/s/^  PBCNF_\([A-Z_]*\) = \([0-9]*\)/\2 \1/p' "$1" | tr '[:upper:]_' '[:lower:] ' ;;
     esac
 }
