@@ -12,6 +12,8 @@ from __future__ import annotations
 
 from typing import Dict, Iterable, List, Optional, Tuple, TypeVar
 
+from pbcnf.tools.watching import watch_another
+
 # A clause of more literals is watched.
 _SHORT = 3
 _Entry = TypeVar("_Entry")
@@ -222,39 +224,35 @@ class Clauses:
         group.done = done
         return wrong
 
+    def _conclude(self, literal: int, number: int) -> int:
+        """Makes a literal true that is the last of a clause which is not false, or gives the clause, if that one is false too, or 0."""
+        if self._false[literal]:
+            return number
+        if not self._true[literal]:
+            self.assign(literal, number)
+        return 0
+
     def _visit_watchers(self, watchers: List[List[int]], gone: int) -> int:
         """Goes through the longer clauses that watch a literal which became false; those that find another one to watch go there."""
         true, false, literals, alive = self._true, self._false, self.literals, self._alive
+        wrong = 0
         kept: List[int] = []
         visited = iter(watchers[gone])
         for number in visited:
             clause = literals[number]
-            other = clause[0]
-            if other == gone:
-                other = clause[0] = clause[1]
-                clause[1] = gone
-            if true[other]:
-                kept.append(number)
-                continue
             if not alive[number]:
                 self._lost.setdefault(number, []).append(gone)
                 continue
-            for place in range(2, len(clause)):
-                literal = clause[place]
-                if not false[literal]:
-                    clause[1] = literal
-                    clause[place] = gone
-                    self._group(number).watchers[literal].append(number)
-                    break
+            other = watch_another(clause, gone, true, false)
+            if other:
+                self._group(number).watchers[other].append(number)
             else:
                 kept.append(number)
-                if false[other]:
-                    kept.extend(visited)
-                    watchers[gone] = kept
-                    return number
-                self.assign(other, number)
-        watchers[gone] = kept
-        return 0
+                wrong = self._conclude(clause[0], number)
+                if wrong:
+                    break
+        watchers[gone] = [*kept, *visited]
+        return wrong
 
 
 def _drop(entries: List[_Entry], entry: _Entry) -> None:

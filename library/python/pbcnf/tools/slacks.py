@@ -10,6 +10,7 @@ from __future__ import annotations
 from typing import Dict, List, Sequence, Tuple
 
 from pbcnf.tools.loading import Constraint
+from pbcnf.tools.watching import watch_another
 
 
 class Propagation:
@@ -133,35 +134,26 @@ class Propagation:
     def _visit_watchers(self, gone: int) -> int:
         """Goes through the clauses that watch a literal which became false; those that find another one to watch go there."""
         true, false, watchers = self.true, self.false, self._watchers
+        wrong = 0
         kept: List[int] = []
         visited = iter(watchers[gone])
         for id in visited:
             clause = self.clauses.get(id)
             if clause is None:
                 continue
-            other = clause[0]
-            if other == gone:
-                other = clause[0] = clause[1]
-                clause[1] = gone
-            if true[other]:
-                kept.append(id)
+            literal = watch_another(clause, gone, true, false)
+            if literal:
+                watchers[literal].append(id)
                 continue
-            for place in range(2, len(clause)):
-                literal = clause[place]
-                if not false[literal]:
-                    clause[1] = literal
-                    clause[place] = gone
-                    watchers[literal].append(id)
-                    break
-            else:
-                kept.append(id)
-                if false[other]:
-                    kept.extend(visited)
-                    watchers[gone] = kept
-                    return id
-                self.assign(other, id)
-        watchers[gone] = kept
-        return 0
+            kept.append(id)
+            literal = clause[0]
+            if false[literal]:
+                wrong = id
+                break
+            if not true[literal]:
+                self.assign(literal, id)
+        watchers[gone] = [*kept, *visited]
+        return wrong
 
     def behind(self, id: int, literal: int, favoured: bytearray) -> List[int]:
         """False literals because of which this constraint or clause makes a literal true, or is false, for 0. Where they are more than
