@@ -60,7 +60,7 @@ static void time_constraint(int count, char **words) {
   printf("%.2f %llu %u\n", best, (unsigned long long)size.clauses, size.vars - size.original);
 }
 
-/* How long a thing is that a call is to put, which it tells where there is no room. */
+/* How long a thing is that a call is to put, which it reports if there is no room. */
 static size_t needed(uint8_t status, const pbcnf_size *size) {
   if (status != PBCNF_NO_ROOM) need(status);
   return (size_t)size->length + 1;
@@ -104,7 +104,7 @@ static struct many read_many(const char *name) {
   return m;
 }
 
-/* One after another, each behind those before it; what they put is as long as what one call puts. */
+/* One after another, each after those before it; what they put is as long as what one call puts. */
 static double one_by_one(const struct many *m, size_t room) {
   pbcnf_size size = {m->first - 1, 0, 0, 0};
   pbcnf_refusal refusal;

@@ -9,7 +9,7 @@ HERE = os.path.dirname(os.path.realpath(__file__))
 
 
 def build(folder):
-    """The folder of the compiled C programs, or None where they could not be compiled, which is told; their columns are left out then."""
+    """The folder of the compiled C programs, or None if they could not be compiled, which is reported; their columns are left out then."""
     status = subprocess.run([os.path.join(HERE, "peer", "build"), folder], stdout=subprocess.DEVNULL).returncode
     return folder if status == 0 else None
 

@@ -53,7 +53,7 @@ def side_by_side(commands, runs):
 
 
 def memory_of(words):
-    """The most memory in MiB that a run of the command had, by what the system tells of it while it runs, or None where it does not.
+    """The most memory in MiB that a run of the command had, by what the system reports of it while it runs, or None where it does not.
 
     It is a run of its own, which is not timed: a process that starts another hands its own peak on to it.
     """
@@ -71,7 +71,7 @@ def memory_of(words):
 
 
 def memory_of_long(run, words):
-    """The same, of a command that was run; of one of a few milliseconds the system tells nothing that holds."""
+    """The same, of a command that was run; of one of a few milliseconds the system reports nothing reliable."""
     return memory_of(words) if run.is_done() and run.seconds >= 0.01 else None
 
 

@@ -5,8 +5,8 @@
  * and fills a `pbcnf_refusal` that says why in numbers.
  *
  * The caller owns all memory. What is made is put into an array of the caller's (the room) from its front on, and how much it
- * is is told. Where the room is too small the call answers PBCNF_NO_ROOM, tells how much is needed, and leaves the room as it
- * was: make it larger and call again with the same arguments, and there is room. At PBCNF_DONE what stood in the room behind
+ * is is reported. Where the room is too small the call answers PBCNF_NO_ROOM, reports how much is needed, and leaves the room as it
+ * was: make it larger and call again with the same arguments, and there is room. At PBCNF_DONE what stood in the room after
  * what was put stays as it was; at every other status the whole room does. At every status but PBCNF_DONE and PBCNF_NO_ROOM
  * the sizes and lengths are 0.
  *
@@ -43,10 +43,10 @@ uint32_t pbcnf_abi(void);
 enum {
   PBCNF_DONE = 0,
   PBCNF_REFUSED = 1,      /* a text leaves its grammar: file, line, column, expected; or, without a line, lacks an objective */
-  PBCNF_USAGE = 2,        /* the numbers passed choose nothing; told before any fault of a text */
+  PBCNF_USAGE = 2,        /* the numbers passed choose nothing; reported before any fault of a text */
   PBCNF_LIMIT = 3,        /* a text, or what is to be made of it, passes a limit: limit, and file, line, column where one is to blame */
   PBCNF_UNREAD = 4,
-  PBCNF_NO_ROOM = 5,      /* the room is too small; the size needed is told */
+  PBCNF_NO_ROOM = 5,      /* the room is too small; the size needed is reported */
   PBCNF_NO_MEMORY = 6,    /* malloc or realloc gave none */
   PBCNF_REJECTED = 7,     /* check, refute: a step of the derivation is not allowed: line, denied, number */
   PBCNF_NO_SOLUTION = 8,  /* decode: the values violate a statement: number, counted from 1 */
@@ -60,12 +60,12 @@ typedef struct {
   uint32_t card;    /* at most so many literals: 0 by bound, 1 counter, 2 totalizer */
   uint32_t general; /* weighted sums: 0 diagram, 1 tree, 2 adder */
   uint32_t equal;   /* equalities: 0 split, half by half; 1 joint, as one where a number of the literals is asked for */
-  uint32_t table;   /* 1: a table of bounds on the objective stands behind all constraints, as `--table` puts it; 0: none */
+  uint32_t table;   /* 1: a table of bounds on the objective stands after all constraints, as `--table` puts it; 0: none */
   uint32_t budget;  /* 1 to 10,000,000: the most fresh variables of one constraint, past which it goes to adders; and of the table */
 } pbcnf_options;
 #define PBCNF_OPTIONS_DEFAULT {0, 0, 0, 0, 0, 50000}
 
-/* A bound on the objective: one more statement behind the others, that the objective is at most this number. The number is in
+/* A bound on the objective: one more statement after the others, that the objective is at most this number. The number is in
  * two's complement of 128 bits, as two words of 64: for a 64-bit b, low = (uint64_t)b, high = b < 0 ? UINT64_MAX : 0. */
 typedef struct {
   uint64_t set;  /* 0: no bound, and the words are not looked at; any other: there is one */
@@ -74,7 +74,7 @@ typedef struct {
 } pbcnf_bound;
 #define PBCNF_NO_BOUND {0, 0, 0}
 
-/* ---- what is told */
+/* ---- what is reported */
 typedef struct {
   uint32_t vars;     /* all variables: 1 to original are the problem's, then come those of its products, then the fresh ones */
   uint32_t original; /* the variables of the problem that have names */
@@ -94,7 +94,7 @@ typedef struct {
 typedef struct {
   uint64_t line;     /* from 1: of a place in a text, of a step, or of a line of a refutation */
   uint64_t column;   /* from 1, in bytes: of a place in a text. A limit may have no place: both 0 */
-  uint64_t number;   /* the violated statement; the constraint to blame; or the variable or id that denied and unproved tell beside */
+  uint64_t number;   /* the violated statement; the constraint to blame; or the variable or id that goes with denied and unproved */
   uint32_t status;   /* what the call returned */
   uint32_t file;     /* which text: PBCNF_FILE_... */
   uint32_t expected; /* what its grammar allows there: PBCNF_EXPECTED_... */
@@ -167,7 +167,7 @@ enum {
   PBCNF_EXPECTED_LRAT_END = 34          /* LRAT: lrat end */
 };
 
-/* Why a step of a derivation is not allowed. N is the number that is told beside. */
+/* Why a step of a derivation is not allowed. N is the number that is reported with it. */
 enum {
   PBCNF_DENIED_NONE = 0,
   PBCNF_DENIED_UNKNOWN_VAR = 1,    /* unknown variable xN */
@@ -207,7 +207,7 @@ uint8_t pbcnf_clauses(const uint8_t *opb, size_t opb_len, const pbcnf_options *o
 uint8_t pbcnf_derive(const uint8_t *opb, size_t opb_len, const pbcnf_options *options, const pbcnf_bound *bound,
                      uint8_t *proof, size_t room, pbcnf_size *size, pbcnf_refusal *refusal);
 
-/* The rows of the table of bounds that stands behind these clauses where options->table is 1, one for each line `bound W L` of
+/* The rows of the table of bounds that stands after these clauses where options->table is 1, one for each line `bound W L` of
  * `pbcnf encode --table`, the values ascending. Assume a row's literal false, and the models are just the solutions whose objective
  * is less than its value. Without a table, or an objective that has costs, there are none. room and size->length count rows.
  * Statuses 0, 1, 2, 3, 5, 6. */
@@ -268,7 +268,7 @@ uint8_t pbcnf_constraint_derive(const uint64_t *coefficients, size_t coefficient
                                 const pbcnf_side *side, const pbcnf_options *options, uint8_t *proof, size_t room,
                                 pbcnf_size *size, pbcnf_refusal *refusal);
 
-/* ---- many constraints in one call: their terms in columns, those of each constraint behind those of the one before */
+/* ---- many constraints in one call: their terms in columns, those of each constraint after those of the one before */
 
 /* What stands beside a sum, whose terms are the next ones. */
 typedef struct {
@@ -279,9 +279,9 @@ typedef struct {
   uint64_t right_high;
 } pbcnf_sum;
 
-/* The clauses of `constraints` constraints as integers, one constraint's behind another's, and their fresh variables likewise from
+/* The clauses of `constraints` constraints as integers, one constraint's after another's, and their fresh variables likewise from
  * first on: what pbcnf_constraint puts, constraint after constraint, each with the first variable that is still free. coefficients,
- * literals and first are as there, `count` are all literals, and the sums tell how many are each one's.
+ * literals and first are as there, `count` are all literals, and the sums report how many are each one's.
  * At PBCNF_USAGE and PBCNF_LIMIT refusal->number is the constraint to blame, from 1, and 0 where no single one is: a bad option or
  * first, counts that do not fit, more than 2^24 constraints, more variables or clauses than may be. Statuses 0, 2, 3, 5, 6. */
 uint8_t pbcnf_constraints(const uint64_t *coefficients, size_t coefficient_words, const int32_t *literals, size_t count,
@@ -319,7 +319,7 @@ static inline pbcnf_sum pbcnf_sum_of(uint32_t relation, int64_t right, uint64_t 
 }
 
 /* ---- fronts. An empty vector has no address, and a slice of the library always has one: so each call is made by a function that
- * stands before it under its name, and that puts an address in the place of a pointer whose count is 0. They tell the compiler too what
+ * stands before it under its name, and that puts an address in the place of a pointer whose count is 0. They also say to the compiler what
  * the caller owes. With PBCNF_EXPORTS defined before this header is included there are none, and the calls are the exports alone. */
 #ifndef PBCNF_EXPORTS
 

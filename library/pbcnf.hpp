@@ -172,7 +172,7 @@ inline void judge_library() {
   if (pbcnf_abi() != PBCNF_ABI) throw std::logic_error("libpbcnf is of another version than pbcnf.hpp");
 }
 
-/* Has a call fill a room, which is a vector or a string: again, if it was too small. It tells how many items there are. */
+/* Has a call fill a room, which is a vector or a string: again, if it was too small. It reports how many items there are. */
 template <typename Room, typename Call>
 Room filled(Room room, Call call) {
   judge_library();
@@ -371,7 +371,7 @@ inline std::string derive_constraint(const Constraint &asked, std::uint32_t firs
 
 /* ---- many constraints in one call */
 
-/* Constraints in columns: the terms of each behind those of the one before. They are made once, and can be added to. */
+/* Constraints in columns: the terms of each after those of the one before. They are made once, and can be added to. */
 class Constraints {
  public:
   void add(const Constraint &asked) { add(asked.coefficients, asked.literals, asked.relation, asked.right); }
@@ -402,7 +402,7 @@ class Constraints {
   std::vector<pbcnf_sum> sums_;
 };
 
-/* The clauses of all constraints, one behind another, with their fresh variables from `first` on. A refusal's number is the constraint to
+/* The clauses of all constraints, one after another, with their fresh variables from `first` on. A refusal's number is the constraint to
  * blame, from 1, and 0 where no single one is. */
 inline Encoding constraints(const Constraints &asked, std::uint32_t first, const Options &options = {}) {
   using Room = std::vector<std::int32_t>;

@@ -35,7 +35,7 @@ version() {
     head -n 1 "$top/VERSION" 2>/dev/null
 }
 
-# said WORD: what BUILT says behind this word.
+# said WORD: what BUILT says after this word.
 said() {
     sed -n "s/^$1 //p" "$shipped/BUILT"
 }

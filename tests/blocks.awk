@@ -4,8 +4,8 @@
 #
 # A block between ``` lines is of commands where it runs ./pbcnf or a script of examples/, or is marked as one of `sh`. The next
 # block is its output, unless that is of commands too, or a heading or a second paragraph stands between; where the lines of
-# commands begin with `$ `, the others are the output. Where there is none, a paragraph may say it: right behind the block as
-# `It says ..`, or right before it, with a colon at the end. A block with a name behind the word for its language is a file.
+# commands begin with `$ `, the others are the output. Where there is none, a paragraph may say it: right after the block as
+# `It says ..`, or right before it, with a colon at the end. A block with a name after the word for its language is a file.
 # It makes N.sh, N.out for the output, and N.says for lines that are among it, for N = 1, 2, .., and files/NAME.
 
 function is_command(line) {

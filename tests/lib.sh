@@ -2,7 +2,7 @@
 # top of the repository, $linked the folder of the C library, $work the folder of the whole run, $subject the case's name.
 #
 # A check is a line of the tally, `passed`, `failed` or `skipped`; the last two have a line in the report too. Where a command did not end
-# as it should, that is the check that failed: what is well behind it says nothing, and does not count, up to the next command.
+# as it should, that is the check that failed: what is well after it says nothing, and does not count, up to the next command.
 set -u
 
 state=$work/state
@@ -23,7 +23,7 @@ failed() {
     [ -z "${until_failed-}" ] || exit 1
 }
 
-# Counts how a command ended, for what is checked behind it.
+# Counts how a command ended, for what is checked after it.
 ended_well() {
     went_well=yes
     passed
@@ -121,7 +121,7 @@ bytes_of() {
     fi
 }
 
-# expect STATUS CMD..: runs the command, keeps what it says and tells, and checks its exit status.
+# expect STATUS CMD..: runs the command, keeps both its outputs, in $said and $told, and checks its exit status.
 expect() {
     local wanted=$1 got
     shift
@@ -183,7 +183,7 @@ absent() {
     done
 }
 
-# fault STATUS LINE WORD..: the program ends with this status, says nothing, and tells just this line.
+# fault STATUS LINE WORD..: the program ends with this status, prints nothing, and just this line on standard error.
 fault() {
     local status=$1 line=$2 got
     shift 2
@@ -198,7 +198,7 @@ fault() {
     fi
 }
 
-# well CMD..: the command ends with 0, says something, and tells nothing.
+# well CMD..: the command ends with 0, prints something, and nothing on standard error.
 well() {
     local got
     last=$(shown "$@")

@@ -78,14 +78,14 @@ short() {
     printf '4 0 2 3 1 0\n' >"$1.lrat"
 }
 
-# So many constraints of a derivation, each deleted right behind.
+# So many constraints of a derivation, each deleted right after.
 steps() {
     short steps
     awk -v n="$1" '{ print } /^f/ { for (i = 4; i < n + 4; i++) printf "rup +1 x1 +1 x2 >= 1 ; 1\ndel %d\n", i }' steps.proof >steps.long
     mv steps.long steps.proof
 }
 
-# So many clauses of a refutation, each deleted right behind.
+# So many clauses of a refutation, each deleted right after.
 undone() {
     short undone
     awk -v n="$1" 'BEGIN {
@@ -94,7 +94,7 @@ undone() {
     }' >undone.lrat
 }
 
-# So many pairs of statements, from each of which a unit follows. It is derived without ids, and deleted right behind.
+# So many pairs of statements, from each of which a unit follows. It is derived without ids, and deleted right after.
 pairs() {
     awk -v n="$1" 'BEGIN {
         printf "p cnf %d %d\n", 2 * n, 2 * n >"pairs.cnf"

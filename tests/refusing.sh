@@ -67,6 +67,6 @@ each() {
     if [ $status -eq 0 ] && [ $n -gt 1 ] && is_whole; then
         ended_well
     else
-        ended_ill "$last: wanted a whole run behind $n, in which nothing is refused, got the status $status"
+        ended_ill "$last: wanted a whole run after call $n, in which nothing is refused, got the status $status"
     fi
 }

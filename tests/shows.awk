@@ -1,4 +1,4 @@
-# Whether the output shows the lines that a page prints: all of them, one behind the other. A line `...` stands for any lines.
+# Whether the output shows the lines that a page prints: all of them, one after the other. A line `...` stands for any lines.
 #
 # usage: awk -f shows.awk PRINTED OUTPUT
 #

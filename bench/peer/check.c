@@ -326,7 +326,7 @@ static void take_head(Text *text) {
   if ((uint64_t)digits(text) != last_id()) stop(REFUSED, "the number of loaded constraints");
 }
 
-/* Takes the rest of a step's line behind its first word. */
+/* Takes the rest of a step's line after its first word. */
 static void take_step(Text *text) {
   const unsigned char first = text->at[0], second = text->at[1];
   text->at += strlen("pol");

@@ -5,7 +5,7 @@
 #include <stdio.h>
 #include <unistd.h>
 
-/* A chunk has room behind the place from which on it is full: for some literals of a long clause, or a short clause. */
+/* A chunk has room after the place from which on it is full: for some literals of a long clause, or a short clause. */
 enum { CHUNK = 1 << 20, ROOM = 4096 };
 
 struct Made made;

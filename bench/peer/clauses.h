@@ -1,4 +1,4 @@
-/* A CNF text that is made: clauses are kept in memory as text, and written behind the p line, which has their number. */
+/* A CNF text that is made: clauses are kept in memory as text, and written after the p line, which has their number. */
 #ifndef PEER_CLAUSES_H
 #define PEER_CLAUSES_H
 

@@ -1,4 +1,4 @@
-/* Reads in one pass; a comment is told by its first byte. */
+/* Reads in one pass; a comment is known by its first byte. */
 #include "cnf.h"
 #include <stdio.h>
 #include <stdlib.h>

@@ -1,4 +1,4 @@
-/* Reads in one pass, token by token, each told by its first byte. */
+/* Reads in one pass, token by token, each known by its first byte. */
 #include "opb.h"
 #include <stdio.h>
 #include <string.h>
@@ -39,7 +39,7 @@ static void end_statement(Problem *problem, Reading *reading) {
 static void take_literal(Problem *problem, Reading *reading, Text *text) {
   int is_negated = *text->at == '~';
   text->at += is_negated;
-  if (*text->at++ != 'x' || !reading->has_number) stop(REFUSED, "a literal by its number, behind a coefficient, is all that is taken");
+  if (*text->at++ != 'x' || !reading->has_number) stop(REFUSED, "a literal by its number, after a coefficient, is all that is taken");
   int64_t variable = digits(text);
   if (variable < 1 || variable > INT32_MAX) stop(WIDE, "a variable");
   if (variable > problem->variables) problem->variables = (uint32_t)variable;

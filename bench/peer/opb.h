@@ -4,7 +4,7 @@
 
 #include "constraint.h"
 
-/* The relation is told by its first byte. */
+/* The relation is known by its first byte. */
 typedef struct {
   uint32_t terms;
   char relation;

@@ -1,4 +1,4 @@
-/* A plain C checker of LRAT refutations by unit propagation (no RAT lines), in one pass: a peer for what `pbcnf refute` does behind its
+/* A plain C checker of LRAT refutations by unit propagation (no RAT lines), in one pass: a peer for what `pbcnf refute` does after its
  * `check`. It takes only the CNF, whose derivation from a problem is the business of check.
  *
  * usage: refute CNF LRAT     prints `refuted`; status 7 where a line is not allowed, or no empty clause is reached */
@@ -70,7 +70,7 @@ static void delete_clauses(Text *text) {
     if (id < store.ids) store.lengths[id] = GONE;
 }
 
-/* Reads the literals of a clause to behind all that are there. */
+/* Appends the literals of a clause to those that are there. */
 static uint32_t take_literals(Text *text) {
   Text rest = *text;
   uint32_t count = 0;

@@ -8,7 +8,7 @@
 #include <sys/stat.h>
 #include <unistd.h>
 
-enum { BEHIND = 64 };
+enum { PADDING = 64 };
 
 void stop(int status, const char *why) {
   fprintf(stderr, "peer: %s\n", why);
@@ -26,11 +26,11 @@ Text text_of(const char *name) {
   struct stat about;
   if (file < 0 || fstat(file, &about)) stop(UNREAD, "read fault");
   size_t room = (size_t)about.st_size, length = 0;
-  unsigned char *bytes = grown(NULL, room + BEHIND);
+  unsigned char *bytes = grown(NULL, room + PADDING);
   ssize_t taken;
   while (length < room && (taken = read(file, bytes + length, room - length)) > 0) length += (size_t)taken;
   if (length < room) stop(UNREAD, "read fault");
   close(file);
-  memset(bytes + length, 0, BEHIND);
+  memset(bytes + length, 0, PADDING);
   return (Text){bytes, bytes + length};
 }

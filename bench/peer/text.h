@@ -7,14 +7,14 @@
 
 enum { REFUSED = 1, USAGE = 2, WIDE = 3, UNREAD = 4, UNWRITTEN = 5, NO_MEMORY = 6, DENIED = 7, NOT_JUDGED = 8 };
 
-/* The bytes that are not read yet. Behind the end stand 64 zeros, so that looking ahead by some bytes needs no test. */
+/* The bytes that are not read yet. After the end stand 64 zeros, so that looking ahead by some bytes needs no test. */
 typedef struct {
   const unsigned char *at, *end;
 } Text;
 
 Text text_of(const char *name);
 
-/* Tells why on standard error, and ends with the status. */
+/* Prints why on standard error, and ends with the status. */
 void stop(int status, const char *why);
 
 /* As realloc, but it ends the run where there is no memory. */

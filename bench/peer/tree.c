@@ -86,7 +86,7 @@ static Node *build(const Term *terms, uint32_t count, Limits *limits) {
   return node;
 }
 
-/* The output of a sum, at the place or behind it. */
+/* The output of a sum, at the place or after it. */
 static int32_t output_of(const Sums *sums, int64_t sum, uint32_t *place) {
   while (sums->sums[*place] < sum) ++*place;
   return sums->outputs[*place];

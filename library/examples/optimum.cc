@@ -1,4 +1,4 @@
-// Finds the best solution of an OPB file in one process, in C++: a table of bounds on the objective stands behind its clauses, so that a
+// Finds the best solution of an OPB file in one process, in C++: a table of bounds on the objective stands after its clauses, so that a
 // better solution is asked for by assuming one literal, and the solver keeps all that it has learned. Each solution is tested against
 // each statement; that none is better is the solver's word.
 //

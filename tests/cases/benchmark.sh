@@ -1,5 +1,5 @@
 # The benchmark measures the program on its small problems, by all its parts, and puts what it saw into the page. What is wrong with an
-# answer is told, and is status 1.
+# answer is reported, and is status 1.
 . "$top/tests/lib.sh"
 
 needs python3

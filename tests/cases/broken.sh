@@ -1,5 +1,5 @@
 # Texts that are cut anywhere, or have another byte somewhere: the program ends with one of its statuses, says a word only where
-# all is well, else tells one line, and makes no file.
+# all is well, else prints one line on standard error, and makes no file.
 . "$top/tests/lib.sh"
 
 take() {

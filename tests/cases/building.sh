@@ -197,7 +197,7 @@ told_of 'pbcnf, or of a crate below it, changed'
 expect 0 build --program
 proved pbcnf
 
-# begin FILE: a build that takes long begins, and tells what it tells in the file; $begun is its process.
+# begin FILE: a build that takes long begins, with its standard error in the file; $begun is its process.
 begin() {
     : >"$kit/log"
     PATH=$kit/bin:$PWD/bin "$copy/build" --program 2>"$1" &

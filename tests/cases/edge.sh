@@ -21,7 +21,7 @@ rows() {
 }
 rows '| a wrong deed | is noticed by |' >wrong
 rows '| a system on which | is borne by |' >hard
-cut -f 1 wrong hard | grep -v '^the status [0-9]* is told as [0-9]*$' | sort >listed
+cut -f 1 wrong hard | grep -v '^the status [0-9]* is reported as [0-9]*$' | sort >listed
 grep -o 'is_done("[^"]*")' "$own/deeds.c" | cut -d '"' -f 2 | sort -u >written
 last='the tables of CONTRIBUTING.md and tests/edge/deeds.c'
 same listed written

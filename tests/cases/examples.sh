@@ -14,7 +14,7 @@ lines_of() {
     holds "$state/lines" "${@:2}"
 }
 
-# Whether the last command has told a line with these words.
+# True if the last command printed a line with these words on standard error.
 mentions() {
     if grep -Fq -- "$1" "$told"; then passed; else failed "$last: wanted '$1' told, got $(bytes_of "$told")"; fi
 }
@@ -33,7 +33,7 @@ refuses_words() {
     fi
 }
 
-# A word behind the OPB file that is no option is refused.
+# A word after the OPB file that is no option is refused.
 for command in solve minimize; do
     for words in precious.txt '--general tree precious.txt' 'precious.txt --table' '-- precious.txt' -x '--at-most=20 7' \
         '--amo auto --card totalizer precious.txt'; do

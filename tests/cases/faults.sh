@@ -1,4 +1,4 @@
-# What is told of a text that leaves its grammar or passes a limit: its place, and each word that the formats list.
+# How a text that does not follow its grammar or passes a limit is reported: its place, and each word that the formats list.
 . "$top/tests/lib.sh"
 
 # opb STATUS LINE TEXT: of an OPB text, without a last LF.
@@ -148,7 +148,7 @@ lrat 10 'line 1: no conflict' $'4 0 2 3 0\n'
 lrat 10 'line 1: no empty clause' ''
 lrat 10 'line 2: no empty clause' $'4 1 0 1 3 0\n'
 
-# So each word of the formats is told here, but that of 2^40 lines.
+# So each word of the formats is reported here, but that of 2^40 lines.
 awk -F'|' '
     /^\| (in the code|limit|expected) .* printed( as)? \|$/ { what = /greatest/ ? "limit " : / where / ? "expected " : "line [0-9]*: " }
     !/^\|/ { what = "" }

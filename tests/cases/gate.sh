@@ -33,7 +33,7 @@ gate() {
     is "$copy/parts" 'the parts' "${@:3}"
 }
 
-# told LINE: the gate has said this line.
+# told LINE: the gate printed this line.
 told() {
     if grep -qxF -- "$1" "$said"; then passed; else failed "$last: wanted the line $1, got $(bytes_of "$said")"; fi
 }

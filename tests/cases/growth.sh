@@ -15,7 +15,7 @@ take() {
 }
 
 # run N WORD..: runs the program with its Nth allocation refused, and keeps what came: the status, standard error, standard output,
-# and the files one and two. The file `refused` tells whether it came to that allocation.
+# and the files one and two. The file `refused` says whether it came to that allocation.
 run() {
     local file
     : >one
@@ -78,7 +78,7 @@ ln -s "$examples" examples
 text row.opb '+4 ~x1 +3 ~x2 +2 ~x3 >= 4 ; +4 ~x4 +3 ~x5 +2 ~x6 >= 4 ;'
 grows 0 encode row.opb one
 
-# What a buffer holds when memory is wanting is written: the second constraint's growth is refused behind the first's clauses.
+# What a buffer holds when memory is wanting is written: the second constraint's growth is refused after the first's clauses.
 wanted=$'6 p cnf 12 10\n-7 -1 8 0\n-8 9 0\n-8 -2 0\n-9 -3 0\n7 0\n'
 found=no
 for text in "${standing[@]}"; do
@@ -87,7 +87,7 @@ done
 if [ $found = yes ]; then
     passed
 else
-    failed "$last: wanted a run that ends with 6 behind the five clauses of the first constraint, got none"
+    failed "$last: wanted a run that ends with 6 after the five clauses of the first constraint, got none"
 fi
 
 grows 0 encode row.opb one two
@@ -100,7 +100,7 @@ done
 if [ $found = yes ]; then
     passed
 else
-    failed "$last: wanted a run that ends with 6 behind five clauses that are put out, got none"
+    failed "$last: wanted a run that ends with 6 after five clauses that are put out, got none"
 fi
 
 grows 0 wcnf row.opb one

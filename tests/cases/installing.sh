@@ -14,7 +14,7 @@ install_copy() {
     "$copy/install" "$@"
 }
 
-# told_of WORD..: the last command has told a line with each.
+# told_of WORD..: the last command printed a line with each on standard error.
 told_of() {
     local word
     for word in "$@"; do

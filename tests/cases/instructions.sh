@@ -9,7 +9,7 @@ count() {
     count=
     valgrind --tool=callgrind --callgrind-out-file=counted --log-file="$state/valgrind" "$pbcnf" "$@" >"$said" 2>"$told" || return
     [ -s "$said" ] || return
-    # Objects have numbers, and the line behind a call is what it takes in all.
+    # Objects have numbers, and the line after a call is what it takes in all.
     count=$(awk -v own="$pbcnf" '
         /^c?ob=/ && substr($0, length($1) + 2) == own { number = $1; sub("^c?ob=", "", number) }
         /^ob=/ { inside = $1 == "ob=" number }

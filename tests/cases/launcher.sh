@@ -16,7 +16,7 @@ launch() {
     PATH=$PWD/bin "$copy/pbcnf" "$@"
 }
 
-# The program runs, and nothing else is told.
+# The program runs, and nothing else is printed.
 runs() {
     well launch bench 1 0
     clauses_alone 11 1

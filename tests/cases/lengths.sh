@@ -1,5 +1,5 @@
 # A derivation is at most twelve times as long as the CNF, however long the sum is: of each family of bench but the diagram, whose lines
-# speak of all terms behind a node, and of tables of bounds. That of a totalizer is at most nine times as long.
+# speak of all terms after a node, and of tables of bounds. That of a totalizer is at most nine times as long.
 . "$top/tests/lib.sh"
 needs python3
 

@@ -70,7 +70,7 @@ careless() {
     [ $# -eq 2 ] || told_of "$3"
 }
 
-# The header tells compilers what the caller owes.
+# By the header's attributes compilers warn of what a caller must not do.
 try_warnings() {
     careless 'return pbcnf_encode(opb, 1, options, bound, cnf, 1, size, refusal);' 0
     careless 'pbcnf_encode(opb, 1, options, bound, cnf, 1, size, refusal); return refusal->status;' 1 unused-result

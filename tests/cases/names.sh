@@ -56,7 +56,7 @@ absent missing
 fault 5 'write fault' encode "$opb" whole.cnf missing/o.proof
 same o.cnf whole.cnf
 
-# An OPB text that is refused is told before what comes behind it is looked for.
+# An OPB text that is refused is reported before what comes after it is opened.
 text refused.opb 'max: +1 x1 ;'
 refusal='OPB 1:1: expected min:, a statement or the end'
 fault 1 "$refusal" encode refused.opb missing/o.cnf

@@ -22,7 +22,7 @@ fault 8 'statement 1 is violated' optimum other.opb best.model a.cnf a.proof a.l
 expect 7 pb optimum other.opb worse.model a.cnf a.proof a.lrat
 says
 
-# Each text is lacking in turn; what comes before is told first.
+# Each text is missing in turn; what is wrong before it is reported first.
 for place in 0 1 2 3 4; do
     names=(a.opb best.model a.cnf a.proof a.lrat)
     names[place]=missing

@@ -54,7 +54,7 @@ while read -r command; do
     same taken offered
 done <commands
 
-# values_on PAGE OPTION: those between the bars behind the option.
+# values_on PAGE OPTION: those between the bars after the option.
 values_on() {
     plain "$1" | grep -o -- "$2 [a-z]*|[a-z|]*" | head -n 1 | cut -d ' ' -f 2 | tr '|' '\n'
 }

@@ -6,11 +6,11 @@ fine encode "$opb" o.cnf o.proof
 cp "$said" summary
 printf 'old\n' >old
 
-# into FILE WORD..: standard output is the file, emptied; behind: at its end; over: from its beginning.
+# into FILE WORD..: standard output is the file, emptied; appending: at its end; over: from its beginning.
 into() {
     "$pbcnf" "${@:2}" >"$1"
 }
-behind() {
+appending() {
     "$pbcnf" "${@:2}" >>"$1"
 }
 over() {
@@ -18,7 +18,7 @@ over() {
 }
 : >empty
 for made in f ./f "$PWD/f" /dev/stdout; do
-    for way in into behind over; do
+    for way in into appending over; do
         cp old f
         if [ $way = into ]; then kept=empty; else kept=old; fi
         expect 5 $way f encode "$opb" "$made"
@@ -43,7 +43,7 @@ cp old f
 ln f hard
 ln -s f soft
 for made in hard soft; do
-    expect 5 behind f encode "$opb" $made
+    expect 5 appending f encode "$opb" $made
     same old f
 done
 
@@ -81,5 +81,5 @@ tells 'pbcnf: write fault'
 
 # What is only read may be what standard output is.
 cp "$opb" f
-expect 0 behind f map f
+expect 0 appending f map f
 same "$opb" f

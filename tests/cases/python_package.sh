@@ -24,7 +24,7 @@ if ! $python -c 'import pip, sys; sys.exit([int(n) for n in pip.__version__.spli
     exit 0
 fi
 
-# Whether the last command has told or said these words; pip breaks no line of them.
+# True if the last command printed these words, on either output; pip breaks no line of them.
 mentions() {
     if cat "$said" "$told" | grep -Fq -- "$1"; then passed; else failed "$last: wanted '$1', got $(bytes_of "$told")"; fi
 }

@@ -1,4 +1,4 @@
-# The quick gate of the daily work: what it reads of texts and of a check's words, and what it tells of planted edits.
+# The quick gate of the daily work: what it reads of texts and of a check's words, and how it reports planted edits.
 . "$top/tests/lib.sh"
 
 needs python3
@@ -56,7 +56,7 @@ said_of() {
     if grep -q -- "$1" "$said"; then passed; else failed "$last: wanted a line with $1, got $(bytes_of "$said")"; fi
 }
 
-# Without git nothing tells what changed at first. Words name it.
+# Without git nothing shows at first what changed. Words name it.
 expect 2 quick no_crate
 tells 'quick: crates.txt names no crate no_crate'
 expect 2 quick
@@ -108,7 +108,7 @@ program run '5 passed, 0 failed, 0 skipped' 0
 expect 0 quick
 done_with '5 passed, 0 failed' run
 
-# A crate that is not proved: what needs it is told as not done, and fails.
+# A crate that is not proved: what needs it is reported as not done, and fails.
 source_is pb_left lib '// wrong'
 expect 1 quick
 done_with '0 passed, 5 failed'

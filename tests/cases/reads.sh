@@ -1,5 +1,5 @@
 # Each text is read to its end once: one read of it gives nothing, whether or not its last line has an LF. So at a terminal one
-# end of input is enough, and nothing behind it is lost.
+# end of input is enough, and nothing after it is lost.
 . "$top/tests/lib.sh"
 . "$top/tests/problems.sh"
 

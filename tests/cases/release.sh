@@ -14,7 +14,7 @@ change() {
     printf '#' | dd of="$1" bs=1 conv=notrunc 2>"$state/dd"
 }
 
-# refused WHAT SCRIPT WORD..: it ends with 1, says nothing, and tells just this line.
+# refused WHAT SCRIPT WORD..: it ends with 1, prints nothing, and just this line on standard error.
 refused() {
     expect 1 "$copy/release/$2" "${@:3}"
     says

@@ -1,4 +1,4 @@
-# Each exit status, over real files, with what is said and told.
+# Each exit status, over real files, with what is printed on both outputs.
 . "$top/tests/lib.sh"
 
 text a.opb '+1 x1 +1 x2 = 1 ;'

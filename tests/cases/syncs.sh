@@ -13,6 +13,6 @@ for call in ftruncate fsync; do
     each $call EINVAL 5 encode knapsack.opb n.cnf n.proof
 done
 
-# A file of which the system does not tell which it is.
+# A file that the system does not identify.
 each statx EIO '4 5' encode knapsack.opb n.cnf n.proof
 each statx EIO 4 refute pigeons.opb pigeons.cnf pigeons.proof pigeons.lrat

@@ -57,7 +57,7 @@ same due.solution "$said"
 fine check due.opb due.cnf due.proof
 says accepted
 
-# What is wrong far behind is seen: a literal of a clause, a step, a value that violates the statement of its number.
+# What is wrong far into a text is seen: a literal of a clause, a step, a value that violates the statement of its number.
 far=$((count - 100))
 sed "$((far + 1))s/.*/$far 0/" due.cnf >wrong.cnf
 fault 7 "PROOF line $((2 * far + 2)): not implied by $((far + count - 2))" check due.opb wrong.cnf due.proof

@@ -52,7 +52,7 @@ refuses bench 1 -1
 refuses bench 1 1 o.cnf --general adder
 absent o.cnf o.proof
 
-# What is allowed: options before, between and behind, with a blank or =, leading zeros, and names behind --.
+# What is allowed: options before, between and after, with a blank or =, leading zeros, and names after --.
 fine encode a.opb one.cnf --amo pairwise --budget 007
 fine encode --amo=pairwise a.opb --budget=7 two.cnf
 fine encode --amo pairwise -- a.opb three.cnf

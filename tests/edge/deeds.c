@@ -1,5 +1,5 @@
 /* Stands between the program and the C library, and does one wrong deed there: the one that WRONG_DEED names, by its row in
-   CONTRIBUTING.md. So a case of tests/ can be seen to notice what no proof covers: what the lines at the system's edge ask for, and
+   CONTRIBUTING.md. So a case of tests/ can be seen to notice what no proof covers: what the lines at the system's edge call, and
    what they make of the answers. Some of these deeds are right: those of a system that is hard to please. It is for one thread. */
 #define _GNU_SOURCE
 #include <errno.h>
@@ -17,7 +17,7 @@ enum { WORDS = 1, FAULTS = 2, PIECE = 65536 };
 
 static const char *deed = "";
 
-/* Whether this is the deed that is done. */
+/* True if this is the deed that is done. */
 static int is_done(const char *name) {
     return strcmp(deed, name) == 0;
 }
@@ -40,29 +40,29 @@ static int is_regular(int file) {
 /* ---- words and fault lines */
 
 /* Puts what is less or more than all, and answers that just all was put. */
-static ssize_t instead(int file, const void *bytes, size_t count, size_t told) {
-    return put(file, bytes, count) < 0 ? -1 : (ssize_t)told;
+static ssize_t instead(int file, const void *bytes, size_t count, size_t answered) {
+    return put(file, bytes, count) < 0 ? -1 : (ssize_t)answered;
 }
 
 static ssize_t say(const char *bytes, size_t count) {
     if (is_done("the last byte of words is lost") && count > 0) return instead(WORDS, bytes, count - 1, count);
-    if (is_done("words behind 4,096 bytes are lost") && count > 4096) return instead(WORDS, bytes, 4096, count);
-    if (is_done("words are said twice")) put(WORDS, bytes, count);
-    if (is_done("a blank stands behind words") && count > 0 && bytes[count - 1] == '\n') {
+    if (is_done("words after the first 4,096 bytes are lost") && count > 4096) return instead(WORDS, bytes, 4096, count);
+    if (is_done("words are printed twice")) put(WORDS, bytes, count);
+    if (is_done("a blank follows words") && count > 0 && bytes[count - 1] == '\n') {
         if (put(WORDS, bytes, count - 1) < 0) return -1;
         return instead(WORDS, " \n", 2, count);
     }
-    if (is_done("words that are not taken count as said")) {
+    if (is_done("words that are not accepted count as printed")) {
         put(WORDS, bytes, count);
         return (ssize_t)count;
     }
     return put(WORDS, bytes, count);
 }
 
-static ssize_t tell(const char *bytes, size_t count) {
+static ssize_t complain(const char *bytes, size_t count) {
     if (is_done("fault lines go to standard output")) return instead(WORDS, bytes, count, count);
-    if (is_done("no fault line is told")) return (ssize_t)count;
-    if (is_done("an empty line stands behind a fault line")) {
+    if (is_done("no fault line is printed")) return (ssize_t)count;
+    if (is_done("an empty line follows a fault line")) {
         ssize_t taken = put(FAULTS, bytes, count);
         put(FAULTS, "\n", 1);
         return taken;
@@ -98,7 +98,7 @@ static ssize_t make(int file, const char *bytes, size_t count) {
 
 ssize_t write(int file, const void *bytes, size_t count) {
     if (file == WORDS) return say(bytes, count);
-    return file == FAULTS ? tell(bytes, count) : make(file, bytes, count);
+    return file == FAULTS ? complain(bytes, count) : make(file, bytes, count);
 }
 
 ssize_t __write(int file, const void *bytes, size_t count) {
@@ -116,13 +116,13 @@ int ftruncate(int file, off_t size) {
 
 int fsync(int file) {
     int answer;
-    if (is_done("a line stands behind the last one") && is_regular(file)) put(file, "c\n", 2);
+    if (is_done("a line follows the last one") && is_regular(file)) put(file, "c\n", 2);
     if (is_done("nothing is synced")) return 0;
     if (is_done("the length is not synced")) return (int)syscall(SYS_fdatasync, file);
     answer = (int)syscall(SYS_fsync, file);
     if (is_done("a failed sync counts as done")) return 0;
     if (is_done("a failed sync of a device counts as done") && answer != 0 && !is_regular(file)) return 0;
-    if (is_done("a failed sync counts as done where it is told as invalid") && answer != 0 && errno == EINVAL) return 0;
+    if (is_done("a failed sync counts as done if it is reported as invalid") && answer != 0 && errno == EINVAL) return 0;
     return answer;
 }
 
@@ -140,14 +140,14 @@ ssize_t read(int file, void *bytes, size_t count) {
     if (is_done("a byte of each full piece that is read is changed") && got == PIECE) ((char *)bytes)[got - 1] ^= 1;
     if (is_done("an interrupted read is the end") && got < 0 && errno == EINTR) return 0;
     if (is_done("a failed read is the end") && got < 0 && errno != EINTR) return 0;
-    if (is_done("the end is asked for twice") && got == 0) return get(file, bytes, count);
+    if (is_done("a text is read again after its end") && got == 0) return get(file, bytes, count);
     is_over = got > 0 && (size_t)got < count;
     return got;
 }
 
 /* ---- how files are opened, and which they are */
 
-/* Whether this is the third time that the root folder is opened, which is how the numbers of closed streams are taken. */
+/* True if this is the third time that the root folder is opened, which is how the numbers of closed streams are taken. */
 static int is_third_stream(const char *name) {
     static int seen;
     return strcmp(name, "/") == 0 && ++seen == 3;
@@ -189,7 +189,7 @@ int open(const char *name, int flags, ...) {
 
 int statx(int file, const char *name, int flags, unsigned asked, struct statx *data) {
     int answer = (int)syscall(SYS_statx, file, name, flags, asked, data);
-    if (is_done("a file of which nothing is told counts as a device") && answer != 0) {
+    if (is_done("a file that is not identified counts as a device") && answer != 0) {
         memset(data, 0, sizeof *data);
         data->stx_mode = S_IFCHR | 0666;
         return 0;
@@ -207,12 +207,12 @@ int statx(int file, const char *name, int flags, unsigned asked, struct statx *d
 
 /* ---- the run as a whole */
 
-/* What is told in place of an exit status. */
+/* Ends with another exit status. */
 static void end(int status, void *unused) {
-    int told, in_its_place;
+    int own, other;
     (void)unused;
-    if (sscanf(deed, "the status %d is told as %d", &told, &in_its_place) == 2 && status == told) status = in_its_place;
-    if (is_done("a line is told where all went well") && status == 0) put(FAULTS, "pbcnf: done\n", 12);
+    if (sscanf(deed, "the status %d is reported as %d", &own, &other) == 2 && status == own) status = other;
+    if (is_done("a line is printed on standard error if all was done") && status == 0) put(FAULTS, "pbcnf: done\n", 12);
     syscall(SYS_exit_group, status);
 }
 
@@ -223,5 +223,5 @@ __attribute__((constructor)) static void begin(void) {
     on_exit(end, NULL);
     if (is_done("300 MB more are taken")) memset(malloc(300u << 20), 1, 300u << 20);
     if (is_done("50 ms more are taken")) nanosleep(&nap, NULL);
-    if (is_done("words hang on the environment") && !getenv("HOME")) put(WORDS, "c\n", 2);
+    if (is_done("words depend on the environment") && !getenv("HOME")) put(WORDS, "c\n", 2);
 }

@@ -1,5 +1,5 @@
 /* Takes the place of the program that is tested, over a library that stands between it and the C library. PROGRAM and LIBRARY are
-   their names. What a test has the loader bring stays, behind it. */
+   their names. What a test has the loader bring stays, after it. */
 #include <stdio.h>
 #include <stdlib.h>
 #include <unistd.h>

@@ -38,7 +38,7 @@ def mark_of(crate):
 
 
 def differ_from_head(top, crates):
-    """The crates whose texts or edits differ from those that git has at HEAD. None where git does not tell."""
+    """The crates whose texts or edits differ from those that git has at HEAD. None if git does not say."""
     words = ["git", "-C", top, "status", "--porcelain", "--untracked-files=all", "-z", "--", "crates"]
     try:
         said = subprocess.run(words, capture_output=True, text=True, errors="replace")
@@ -52,7 +52,7 @@ def differ_from_head(top, crates):
 
 
 def changed(top, crates, sums):
-    """The crates that differ from what last passed here or, where nothing did, from HEAD. None where neither tells."""
+    """The crates that differ from what last passed here or, where nothing did, from HEAD. None if neither is known."""
     marks = {it.name: text_of(mark_of(it)) for it in crates}
     found = {name for name in marks if marks[name] and marks[name] != sums[name]}
     unmarked = [it for it in crates if not marks[it.name]]

@@ -33,7 +33,7 @@ class Trial:
         return one is other or other in self.reach_of(one) or one in self.reach_of(other)
 
     def rounds_of(self, placed):
-        """The edits in rounds, as many as can be tried at once or as have to be: each joins the shortest that it can be told apart in."""
+        """The edits in rounds, as many as can be tried at once or as have to be: each joins the shortest in which it can be told apart."""
         rounds = []
         for edit in placed:
             fits = [it for it in rounds if self.may_join(edit, it)]
@@ -86,7 +86,7 @@ class Trial:
         return own
 
     def by_functions(self, placed):
-        """Tries edits by one check of their functions, and returns what that tells of each."""
+        """Tries edits by one check of their functions, and returns what became of each."""
         texts = self.applied(placed)
         status, said = self.check(texts, [it.path for it in placed])
         if told.is_read(said):
@@ -95,7 +95,7 @@ class Trial:
         return [told.unread(status, said) if len(placed) == 1 else Told(told.AGAIN, "") for _ in placed]
 
     def renamed(self, edit, found):
-        """What comes of an edit of which only names tell, once its function's proof is read in its names."""
+        """What becomes of an edit that is refused for its names alone, once its function's proof is read in its names."""
         texts = renames.in_its_names(edit, found, self.crate.folder)
         if not texts:
             return found
@@ -106,7 +106,7 @@ class Trial:
         return again if again.kind == told.REFUSED else found
 
     def try_round(self, placed):
-        """Tries edits by one check, and alone where that does not tell."""
+        """Tries edits by one check, and alone those that it leaves undecided."""
         for edit, found in zip(placed, self.by_functions(placed)):
             if found.kind == told.AGAIN and len(placed) > 1:
                 found = self.by_functions([edit])[0]
@@ -129,7 +129,7 @@ class Trial:
         return placed, others, unfit
 
     def go(self, several, tell):
-        """Tries all edits, rounds side by side, tells each as it is known, and returns what became of them by their files."""
+        """Tries all edits, rounds side by side, reports each as it is known, and returns what became of them by their files."""
         placed, others, known = self.sorted_out(several)
         results = {}
 

@@ -44,7 +44,7 @@ def stop_of(code, at):
 
 
 def body_of(code, at):
-    """The braces of the body of the function whose head goes on at this place, behind its clauses. None where it has no body."""
+    """The braces of the body of the function whose head goes on at this place, after its clauses. None where it has no body."""
     begin, stop = at, stop_of(code, at)
     while stop < len(code) and code[stop] == "{":
         close = close_of(code, stop)
@@ -82,7 +82,7 @@ def module_of(path):
 
 
 def reach_of(function, every):
-    """The functions that one may call, by any number of calls between, as far as names tell."""
+    """The functions that one may call, by any number of calls between, as far as names show."""
     found, waiting = set(), [function]
     while waiting:
         calls = waiting.pop().calls

@@ -83,7 +83,7 @@ def begin_all(plan, steps, done, running, limits):
 
 
 def run_all(several, limits, tell):
-    """Runs steps, tells of each as it ends, and returns how each ended, by its name. Those that need one that failed do not run."""
+    """Runs steps, reports each as it ends, and returns how each ended, by its name. Those that need one that failed do not run."""
     steps, ended, running = {it.name: it for it in several}, {}, {}
     plan = plan_of(steps, ended)
     try:

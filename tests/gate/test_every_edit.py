@@ -32,7 +32,7 @@ class EveryEdit(unittest.TestCase):
                 edits.Edit(file).applied({}, folder)
 
     def test_no_line_is_passed_over(self):
-        # An old text without a new one behind it, or a pair before any file's name, would be lost.
+        # An old text without a new one after it, or a pair before any file's name, would be lost.
         for _, file in every_edit():
             with open(file, encoding="utf-8") as text:
                 words = [found.group(1) for found in map(SAYS.match, text) if found]

@@ -53,7 +53,7 @@ class Proof(Command):
 
 
 class Work:
-    """The work on a checkout in which these crates changed: uses has what each crate uses, is_asked tells whether the tests of the
+    """The work on a checkout in which these crates changed: uses has what each crate uses, is_asked says whether the tests of the
     crates above are to be run, and memory is the most GB that is taken."""
 
     def __init__(self, shop, uses, changed, is_asked, memory):

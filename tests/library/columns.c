@@ -1,5 +1,5 @@
-/* Many constraints in one call: what is made is what the calls of one constraint make, one behind another; it is accepted by the
- * derivation; rooms that are exact, and one too small; a refusal tells the constraint to blame, and its words too. */
+/* Many constraints in one call: what is made is what the calls of one constraint make, one after another; it is accepted by the
+ * derivation; rooms that are exact, and one too small; a refusal reports the constraint to blame, and its words too. */
 #include "calls.h"
 
 enum { ROOM = 1 << 16, PROOF = 1 << 20, FIRST = 8, MOST = 24, TERMS = 8 };
@@ -145,7 +145,7 @@ static void try_blamed(struct columns c, uint8_t status, uint64_t number, const 
   memset(&a.size, 0x3c, sizeof a.size);
   memset(integers, 0xa5, sizeof integers);
   judge(make(&c, ROOM, &a) == status && a.refusal.status == status && a.refusal.number == number, "the one to blame", "constraints", where);
-  judge(is_bare(&a) && is_untouched(integers, 0, sizeof integers), "nothing is put or told", "constraints", where);
+  judge(is_bare(&a) && is_untouched(integers, 0, sizeof integers), "nothing is put or reported", "constraints", where);
   judge(derive(&c, &d) == status && d.refusal.number == number, "the one to blame", "constraints_derive", where);
   judge(pbcnf_words(&a.refusal, said, sizeof said, &length) == PBCNF_DONE, "there are words", "words", where);
   judge(length == strlen(due) && memcmp(said, due, length) == 0, "its words", "words", where);

@@ -191,7 +191,7 @@ static void try_drawn(void) {
   }
 }
 
-/* 3 x1 + 2 ~x2 + 2 x3 >= 5, and >= 4 behind it. */
+/* 3 x1 + 2 ~x2 + 2 x3 >= 5, and >= 4 after it. */
 static void try_example(void) {
   static const uint64_t coefficients[] = {3, 2, 2};
   static const int32_t lits[] = {1, -2, 3}, due[] = {1, 0, -2, 3, 0};

@@ -1,4 +1,4 @@
-/* Each allocation of each call refused in turn: the call answers that memory is wanting, and has put and told nothing, or it
+/* Each allocation of each call refused in turn: the call answers that it is out of memory, and has put and reported nothing, or it
  * does just as it does without the refusal. Whatever it answers, it has given back all that it took.
  *
  * Linked with --wrap=malloc, --wrap=realloc and --wrap=free, so that the library's calls come here. */
@@ -59,7 +59,7 @@ static void try_growth(const struct problem *p, const struct call *call, long wh
     bad += (!is_wanting(&b, call->item) && !is_whole(&b, &a, call->item)) || blocks != before;
   }
   left = -1;
-  judge(bad == 0, "an allocation that is refused is told, or does no harm", call->name, where);
+  judge(bad == 0, "an allocation that is refused is reported, or does no harm", call->name, where);
   judge(is_whole(&b, &a, call->item) && blocks == before, "with none refused all is done, and nothing is kept", call->name, where);
   judge(refused == 0 || wanting > 0, "some of them were missed", call->name, where);
 }

@@ -1,4 +1,4 @@
-/* Numbers that choose nothing are told as such, before any fault of a text, and nothing is put. */
+/* Numbers that choose nothing are reported as such, before any fault of a text, and nothing is put. */
 #include "calls.h"
 
 enum { ROOM = 4096 };
@@ -27,7 +27,7 @@ static void try_options(pbcnf_options options, int is_usage, long where) {
       room = room_of(&calls[i], ROOM);
       calls[i].make(&texts[t], room, ROOM, &a);
       judge(is_usage == (a.status == PBCNF_USAGE), "the options are judged first", calls[i].name, where);
-      if (is_usage) judge(is_bare(&a) && is_untouched(room, 0, calls[i].item * ROOM), "nothing is put or told", calls[i].name, where);
+      if (is_usage) judge(is_bare(&a) && is_untouched(room, 0, calls[i].item * ROOM), "nothing is put or reported", calls[i].name, where);
       if (is_usage) judge(is_plain(&a.refusal, PBCNF_USAGE), "no place is told", calls[i].name, where);
       free(room);
     }
@@ -65,8 +65,8 @@ static void try_constraint(const uint64_t *coefficients, size_t words, const int
   judge(a.status == status && a.refusal.status == status && a.refusal.limit == limit, "the status is due", "constraint", where);
   judge(b.status == status && b.refusal.status == status && b.refusal.limit == limit, "the status is due", "constraint_derive", where);
   if (status == PBCNF_DONE) return;
-  judge(is_bare(&a) && is_untouched(integers, 0, sizeof integers), "nothing is put or told", "constraint", where);
-  judge(is_bare(&b) && is_untouched(proof, 0, sizeof proof), "nothing is put or told", "constraint_derive", where);
+  judge(is_bare(&a) && is_untouched(integers, 0, sizeof integers), "nothing is put or reported", "constraint", where);
+  judge(is_bare(&b) && is_untouched(proof, 0, sizeof proof), "nothing is put or reported", "constraint_derive", where);
 }
 
 static void try_constraints(void) {

@@ -32,7 +32,7 @@ static int says(pbcnf_refusal r, const char *due) {
   return 0;
 }
 
-/* Which text a comment begins with, and what is behind it. */
+/* Which text a comment begins with, and what is after it. */
 static uint32_t file_of(const char **comment, const char **name) {
   static const char *const marks[] = {"OPB: ", "CNF: ", "derivation: ", "model: ", "LRAT: "};
   static const char *const names[] = {"OPB", "CNF", "PROOF", "MODEL", "LRAT"};
@@ -46,7 +46,7 @@ static uint32_t file_of(const char **comment, const char **name) {
   return PBCNF_FILE_OPB;
 }
 
-/* The words of a reason, at whose end N stands for the number that is told beside. */
+/* The words of a reason, at whose end N is the number that is reported with it. */
 static void try_reason(const struct constant *reason, pbcnf_refusal r, const char *where) {
   const size_t length = strlen(reason->comment), has_number = reason->comment[length - 1] == 'N';
   char due[200], number[2] = "";

@@ -1,9 +1,9 @@
-/* Rooms that are ample, exact, one item too small and empty: what is put, what is told, and what stays as it was. */
+/* Rooms that are ample, exact, one item too small and empty: what is put, what is reported, and what stays as it was. */
 #include "calls.h"
 
 enum { AMPLE = 1 << 16 };
 
-/* How a call's size is spoiled before it is made: at every status the call tells its own. */
+/* How a call's size is spoiled before it is made: with every status the call reports its own. */
 static struct answer answer_of(const struct problem *p, const struct call *call, void *room, size_t count) {
   struct answer a = spoiled();
   if (call->make != make_decode && call->make != make_map && call->make != make_check) memset(&a.size, 0x3c, sizeof a.size);
@@ -17,22 +17,22 @@ static void try_rooms(const struct problem *p, const struct call *call, long whe
   _Alignas(pbcnf_row) uint8_t nothing[32];
   struct answer a = answer_of(p, call, ample, AMPLE), b;
   judge(a.status == due(p, call), "the status is due", call->name, where);
-  judge(a.refusal.status == a.status, "the refusal tells the status", call->name, where);
+  judge(a.refusal.status == a.status, "the refusal has the status", call->name, where);
   if (a.status == PBCNF_DONE) judge(is_plain(&a.refusal, PBCNF_DONE), "nothing is refused", call->name, where);
   if (a.status != PBCNF_DONE) {
     judge(is_untouched(ample, 0, call->item * AMPLE), "nothing is put", call->name, where);
-    judge(is_bare(&a), "no size is told", call->name, where);
+    judge(is_bare(&a), "no size is reported", call->name, where);
     free(ample);
     return;
   }
-  judge(a.length <= AMPLE && is_untouched(ample, call->item * a.length, call->item * AMPLE), "what is behind stays", call->name, where);
+  judge(a.length <= AMPLE && is_untouched(ample, call->item * a.length, call->item * AMPLE), "what comes after stays as it was", call->name, where);
   exact = room_of(call, a.length);
   b = answer_of(p, call, exact, a.length);
   judge(b.status == PBCNF_DONE && b.length == a.length, "an exact room is enough", call->name, where);
   judge(memcmp(exact, ample, call->item * a.length) == 0, "the same is put into it", call->name, where);
-  judge(memcmp(&a.size, &b.size, sizeof a.size) == 0, "the same sizes are told", call->name, where);
+  judge(memcmp(&a.size, &b.size, sizeof a.size) == 0, "the same sizes are reported", call->name, where);
   b = answer_of(p, call, nothing, 0);
-  judge(b.status == (a.length ? PBCNF_NO_ROOM : PBCNF_DONE) && b.length == a.length, "an empty room tells the size", call->name, where);
+  judge(b.status == (a.length ? PBCNF_NO_ROOM : PBCNF_DONE) && b.length == a.length, "with an empty room the size is reported", call->name, where);
   judge(memcmp(&a.size, &b.size, sizeof a.size) == 0, "and the sizes", call->name, where);
   judge(is_plain(&b.refusal, b.status), "and no more", call->name, where);
   if (a.length) {
@@ -53,8 +53,8 @@ static void try_refused(const char *opb, uint8_t status, long where) {
     uint8_t *room = room_of(&calls[i], 64);
     struct answer a = answer_of(&p, &calls[i], room, 64);
     judge(a.status == status && a.refusal.status == status, "the text is refused", calls[i].name, where);
-    judge(is_bare(&a) && is_untouched(room, 0, calls[i].item * 64), "nothing is put or told", calls[i].name, where);
-    judge(a.refusal.file == PBCNF_FILE_OPB && a.refusal.line == 1 && a.refusal.column > 1, "its place is told", calls[i].name, where);
+    judge(is_bare(&a) && is_untouched(room, 0, calls[i].item * 64), "nothing is put or reported", calls[i].name, where);
+    judge(a.refusal.file == PBCNF_FILE_OPB && a.refusal.line == 1 && a.refusal.column > 1, "its place is reported", calls[i].name, where);
     free(room);
   }
 }

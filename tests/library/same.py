@@ -4,7 +4,7 @@
 usage: same.py PROGRAM OPB..
 
 Under all options, with bounds: the same CNF, weighted CNF and derivation, rows of a table of bounds, names, solutions, judgements, refusals and statuses; the
-integers are the words of the CNF text; constraints one at a time are the problem's clauses, one behind the other.
+integers are the words of the CNF text; constraints one at a time are the problem's clauses, one after the other.
 """
 
 import itertools
@@ -48,7 +48,7 @@ class Program:
             return file.read()
 
     def run(self, *words):
-        """The status, what is said, and the line that is told."""
+        """The status, what is said, and the line that is reported."""
         ran = subprocess.run([self.path, *words], cwd=self.folder, stdin=subprocess.DEVNULL, capture_output=True, check=False)
         return ran.returncode, ran.stdout.decode("ascii"), ran.stderr.decode("ascii").rstrip("\n")
 
@@ -241,7 +241,7 @@ def hold_drawn(program, draws, count):
 
 
 def hold_constraints(draws, count):
-    """Constraints one at a time, each behind the one before, are the clauses of the problem of them all."""
+    """Constraints one at a time, each after the one before, are the clauses of the problem of them all."""
     for number in range(count):
         chosen, first, integers, text = without_table(draws.options()), 10, [], "* #variable= 9\n"
         what = "constraints %d" % number

@@ -1,6 +1,6 @@
 /* The constants of pbcnf.h are the library's numbers: of each text, and of the usual options.
  *
- * usage: usual OPB    prints the CNF text of the problem under the usual options, behind a line on standard error for each failure */
+ * usage: usual OPB    prints the CNF text of the problem under the usual options, after a line on standard error for each failure */
 #include "calls.h"
 
 static const struct {

@@ -8,7 +8,7 @@ pub fn assert_found(rt: &impl Abort, found: Option<String>, expected: &str, of: 
     assert_eq!(rt; found.as_deref(), Some(expected), "of {of}");
 }
 
-/// That of each text what stands beside it is told.
+/// That of each text what is beside it is found.
 pub fn assert_each<R: Abort + Alloc<A = Global>, F: Fn(Global, &str) -> Option<String>>(
     rt: &R,
     tell: F,
@@ -22,7 +22,7 @@ pub fn assert_each<R: Abort + Alloc<A = Global>, F: Fn(Global, &str) -> Option<S
     }
 }
 
-/// That of each text of a page what stands behind its ` => ` is told. Between two of them stands `between`.
+/// That of each text of a page what comes after its ` => ` is found. Between two of them is `between`.
 pub fn assert_page<R: Abort + Alloc<A = Global>, F: Fn(Global, &str) -> Option<String>>(
     rt: &R,
     tell: F,

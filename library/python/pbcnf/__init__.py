@@ -66,7 +66,7 @@ def encode(opb: Text, *, at_most: Optional[int] = None, table: bool = False, **c
     """The clauses of a problem: their models, cut to its variables, are exactly its solutions.
 
     `at_most` is a bound on the objective: solutions of a greater value are none then. With `table` a table of bounds on the
-    objective stands behind all constraints; `bounds` gives its rows.
+    objective stands after all constraints; `bounds` gives its rows.
 
     >>> encoding = pbcnf.encode("+1 x1 +1 x2 +1 x3 <= 1 ;", amo="ladder")
     >>> encoding
@@ -220,10 +220,10 @@ def derive_constraint(terms: Terms, relation: Relation, right: int, *, first: in
 
 
 def constraints(asked: Iterable[Tuple[Terms, Relation, int]], *, first: int, **chosen: Unpack[Chosen]) -> Encoding:
-    """The clauses of many constraints, one behind another, with their fresh variables from `first` on: what `constraint` makes of each
+    """The clauses of many constraints, one after another, with their fresh variables from `first` on: what `constraint` makes of each
     with the first variable that is still free, in one call of the library.
 
-    Each is a tuple of its terms, its relation and its right side. Where one is to blame, the error tells its number.
+    Each is a tuple of its terms, its relation and its right side. Where one is to blame, the error reports its number.
 
     >>> pbcnf.constraints([([(1, 1), (1, 2), (1, 3)], "<=", 1), ([(2, 1), (1, -2)], ">=", 2)], first=4).clauses
     [[-1, -2], [-1, -3], [-2, -3], [1]]

@@ -30,7 +30,7 @@ def error(refusal: Refusal) -> Error:
 
 def put(name: str, posed: Posed, told: Told, item: int, room: int, made: Callable[[memoryview], Made]) -> Made:
     """What is made of the bytes that a call puts: items of so many bytes each, for as many of which there is room at least. Where
-    that is too little the library tells how many there are, and is called again."""
+    that is too little the library reports how many there are, and is called again."""
     refusal, filled = Refusal(), _take_room()
     while True:
         if len(filled) < item * room:
@@ -60,12 +60,12 @@ def _give_room(room: array[int]) -> None:
 
 
 def put_text(name: str, posed: Posed, room: int) -> str:
-    """The text that a call puts which tells a size."""
+    """The text that a call puts which reports a size."""
     return put(name, posed, Size(), 1, room, _text)
 
 
 def put_words(name: str, posed: Posed) -> str:
-    """The text that a call puts which tells its length alone."""
+    """The text that a call puts which reports its length alone."""
     return put(name, posed, ctypes.c_uint64(), 1, 4 * posed.amount + 64, _text)
 
 

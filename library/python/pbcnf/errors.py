@@ -19,7 +19,7 @@ class Error(Exception):
     status: int = 70
 
     def _take(self, refusal: Refusal) -> None:
-        """Takes what the numbers tell."""
+        """Takes what the numbers say."""
 
 
 class Refused(Error):

@@ -20,7 +20,7 @@ class Clauses(Sequence[List[int]]):
 
     @property
     def integers(self) -> memoryview:
-        """The literals of each clause, and 0 behind each."""
+        """The literals of each clause, and 0 after each."""
         return memoryview(self._packed).cast("i")
 
     def __len__(self) -> int:

@@ -1,4 +1,4 @@
-"""A SAT solver for tests, called as CaDiCaL is: a search tree with unit propagation, which writes LRAT; and it may be told to fail.
+"""A SAT solver for tests, called as CaDiCaL is: a search tree with unit propagation, which writes LRAT; and it may be made to fail.
 
 The environment's STUB_CALLS names a file that gets a line for each call. Where its STUB_FORMAT is `drat` it writes DRAT, as older ones do, and
 where that is `frat` FRAT, as CryptoMiniSat does. From the call of the number STUB_FROM on it does what
@@ -20,7 +20,7 @@ class Tree:
         self.lines = []
 
     def propagate(self, values):
-        """Goes on from the values; gives the clauses that made others true, in their order, and a false one behind them, or 0."""
+        """Goes on from the values; gives the clauses that made others true, in their order, and a false one after them, or 0."""
         used = []
         while True:
             before = len(used)

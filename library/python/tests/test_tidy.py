@@ -299,7 +299,7 @@ class Command(unittest.TestCase):
         return path
 
     def run_tidy(self, *words):
-        """The exit status, and what is told."""
+        """The exit status, and what is printed on standard error."""
         told = io.StringIO()
         with contextlib.redirect_stderr(told):
             status = tidy.main(list(words))

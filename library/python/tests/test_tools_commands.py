@@ -80,7 +80,7 @@ class Commands(unittest.TestCase):
         return self.path(name)
 
     def make_stub(self, name, *lines):
-        """The solver of the tests, behind these lines of a shell."""
+        """The solver of the tests, after these lines of a shell."""
         self.make_script(name, *lines, 'exec "%s" -I -S -B "%s" "$@"' % (sys.executable, os.path.join(HERE, "stub_solver.py")))
 
     def make_script(self, name, *lines):
@@ -143,7 +143,7 @@ class Minimizing(Commands):
         status, said, _ = self.run_tool("minimize", "-q", self.put("stars.opb", STARS))
         with open(self.calls) as file:
             calls = file.readlines()
-        # The last run has the bound below the optimum: there is none behind it, and a lesser limit before.
+        # The last run has the bound below the optimum: there is none after it, and a lesser limit before.
         self.assertEqual(status, 0)
         self.assertTrue(all("-c" in call.split() for call in calls[1:]), calls)
 

@@ -399,7 +399,7 @@ class Drawn:
 
 class Descents(Folder):
     def descent(self, *pieces):
-        """The models of an optimizer that says these pieces, one behind the other, and whether it says that it has ended."""
+        """The models of an optimizer that says these pieces, one after the other, and whether it says that it has ended."""
         said = list(pieces)
         running = unittest.mock.Mock(take=lambda: said.pop(0))
         made = optimizers.Descent(running)
@@ -450,7 +450,7 @@ class Lines(Folder):
     """The line on standard error."""
 
     def written(self, terminal, quiet=False, term="xterm"):
-        """What is written of a search that finds one solution and then raises the lower bound, with a tick behind each."""
+        """What is written of a search that finds one solution and then raises the lower bound, with a tick after each."""
         error = io.StringIO()
         error.isatty = lambda: terminal
         with unittest.mock.patch("sys.stderr", error), unittest.mock.patch.dict(os.environ, TERM=term):

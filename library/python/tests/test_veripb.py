@@ -156,7 +156,7 @@ class Lines(Folder):
                      "conclusion UNSAT : 10", "end pseudo-Boolean proof"], lrat, "--clauses")
 
     def test_a_constraint_for_two_clauses(self) -> None:
-        """It is gone with the second; what stands behind the empty clause is read and not printed."""
+        """It is gone with the second; what stands after the empty clause is read and not printed."""
         opb, cnf = "+1 a1 +1 a2 >= 2 ;\n+1 ~a1 >= 1 ;\n", "p cnf 2 3\n1 0\n2 0\n-1 0\n"
         proof = "pseudo-Boolean derivation profile 1\nf 2\npol 1\nout 3\nout 3\nout 2\nend\n"
         lrat = self.write("lrat", "4 d 1 0\n4 1 2 0 2 0\n4 d 2 0\n5 0 4 3 0\n5 d 4 0\n6 1 0 5 0\n")
@@ -179,7 +179,7 @@ class Lines(Folder):
 
 
 class Refusals(Folder):
-    """Nothing is printed then, and one line tells why."""
+    """Nothing is printed then, and one line says why."""
 
     def ends(self, status: int, told: str, opb: str = OPB, cnf: str = CNF, proof: str = DERIVATION, lrat: Optional[str] = LRAT,
              options: Tuple[str, ...] = ()) -> None:

@@ -66,7 +66,7 @@ WRONG = [
     ("another output", 10, "output ALL", 10),
     ("no output", 10, "", 11),
     ("no conclusion", 11, "", 12),
-    ("a line behind the conclusion", 12, "rup >= 0 ;", 12),
+    ("a line after the conclusion", 12, "rup >= 0 ;", 12),
 ]
 
 

@@ -82,7 +82,7 @@ class Checker:
         self.last = 0
         self.conclusion = ""
         self.stage = 0
-        """0 before `f`, 1 among the rules, then 2 behind `output`, 3 behind `conclusion`, 4 behind the end."""
+        """0 before `f`, 1 among the rules, then 2 after `output`, 3 after `conclusion`, 4 after the end."""
 
     def line(self, words: List[str]) -> None:
         rules = {"f": self.load, "pol": self.pol, "rup": self.rup, "red": self.red, "del": self.delete, "output": self.output,
@@ -163,7 +163,7 @@ class Checker:
         self.add(claim)
 
     def claim(self, words: List[str]) -> Tuple[Constraint, List[str]]:
-        """A constraint that is written in OPB, and the words behind its semicolon."""
+        """A constraint that is written in OPB, and the words after its semicolon."""
         if ">=" not in words:
             raise Wrong("there is no >=")
         relation = words.index(">=")

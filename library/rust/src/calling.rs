@@ -40,7 +40,7 @@ pub fn judge_library() {
     );
 }
 
-/// Makes a call that puts items into a room of so many at least, and tells how many: again, if the room was too small.
+/// Makes a call that puts items into a room of so many at least, and reports how many: again, if the room was too small.
 pub fn fill<T: Clone + Default>(
     put: &mut Vec<T>,
     room: usize,

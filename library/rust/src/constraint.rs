@@ -191,7 +191,7 @@ impl Encoder {
         Ok(Encoding::new(&self.room[..size.length as usize], size))
     }
 
-    /// The clauses of many constraints, one behind another, with their fresh variables from `first` on.
+    /// The clauses of many constraints, one after another, with their fresh variables from `first` on.
     pub fn constraints(
         &mut self,
         constraints: &Constraints,

@@ -23,7 +23,7 @@ type Call<T> = unsafe extern "C" fn(
     *mut c::Refusal,
 ) -> u8;
 
-/// Constraints in columns, the terms of each behind those of the one before, to be encoded in one call.
+/// Constraints in columns, the terms of each after those of the one before, to be encoded in one call.
 ///
 /// ```
 /// use pbcnf::{lit, Constraint, Constraints, Options, Relation};
@@ -77,7 +77,7 @@ impl Constraints {
         self.sums.clear();
     }
 
-    /// The clauses of all, one behind another, with their fresh variables from `first` on; all their variables are below that.
+    /// The clauses of all, one after another, with their fresh variables from `first` on; all their variables are below that.
     pub fn encode(&self, first: u32, options: &Options) -> Result<Encoding, Error> {
         let mut integers = Vec::new();
         let size = self.fill(first, options, &mut integers)?;

@@ -134,7 +134,7 @@ pub enum Kind {
     },
     /// The solver does not say that there is a model.
     NoModel,
-    /// The library tells a cause that this crate does not know: it is of another version.
+    /// The library reports a cause that this crate does not know: it is of another version.
     Unknown,
 }
 
@@ -178,7 +178,7 @@ impl Error {
         self.constraint
     }
 
-    /// The error that a refusal tells. Which mistake a usage is, the caller looks for.
+    /// The error that a refusal reports. Which mistake a usage is, the caller looks for.
     pub(crate) fn of(refusal: &c::Refusal, mistake: impl FnOnce() -> Option<Mistake>) -> Error {
         let told = match refusal.status {
             2 => mistake().map(Kind::Usage),
@@ -206,7 +206,7 @@ fn constraint_of(refusal: &c::Refusal) -> Option<usize> {
     }
 }
 
-/// What a refusal tells, if these are numbers of the header.
+/// What a refusal reports, if these are numbers of the header.
 fn kind_of(refusal: &c::Refusal) -> Option<Kind> {
     let (line, number) = (refusal.line, refusal.number);
     let place = Place {

@@ -1,4 +1,4 @@
-//! The causes of refusals that the library tells by numbers: those of pbcnf.h, which stay.
+//! The causes of refusals that the library reports by numbers: those of pbcnf.h, which stay.
 
 /// An enum whose variants have the numbers of the header.
 macro_rules! numbered {
@@ -102,7 +102,7 @@ numbered! {
         ModelLiteral = 16,
         /// Model: not the negation of a literal that was listed.
         Opposite = 17,
-        /// Model: the 0 behind the literals.
+        /// Model: the 0 after the literals.
         ModelZero = 18,
         /// Derivation: its first line.
         Head = 19,

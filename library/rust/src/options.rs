@@ -118,7 +118,7 @@ impl Options {
         Options { budget, ..self }
     }
 
-    /// Chooses whether a table of bounds on the objective stands behind all constraints; [`bounds`](crate::bounds) gives its rows.
+    /// Chooses whether a table of bounds on the objective stands after all constraints; [`bounds`](crate::bounds) gives its rows.
     pub const fn table(self, table: bool) -> Self {
         Options { table, ..self }
     }

@@ -1,4 +1,4 @@
-//! What the crate passes on, and how it tells what comes back: each option, numbers of any sign and size, each text, and long texts.
+//! What the crate passes on, and how it reports what comes back: each option, numbers of any sign and size, each text, and long texts.
 use pbcnf::{
     lit, Amo, Card, Constraint, Equal, Expected, File, General, Kind, Limit, Lit, Options, Place,
     Relation,

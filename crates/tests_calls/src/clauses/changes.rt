@@ -28,7 +28,7 @@ fn alone(alloc: Global, engine: &mut Engine) -> Option<String>
     format!(in alloc; "{reached}; {:?}", engine.slack(0)).ok()
 }
 
-// Adds constraints of three variables, and tells their places.
+// Adds constraints of three variables, and returns their places.
 fn places(alloc: Global, engine: &mut Engine, texts: &[&str]) -> Option<String>
     requires { engine.old.vars ≡ 3 }
     ensures { engine.new.vars ≡ 3 }
@@ -67,7 +67,7 @@ fn without(alloc: Global, engine: &mut Engine) -> Option<String>
     format!(in alloc; "{removed:?}; {reached}").ok()
 }
 
-// What is told of a constraint alone, with others beside it, and of these once it is gone.
+// What a constraint reaches alone, with others beside it, and what these reach once it is removed.
 fn comes_and_goes(alloc: Global, engine: &mut Engine, others: &[&str]) -> Option<String>
     requires { engine.old.vars ≡ 3 }
 {

@@ -43,7 +43,7 @@ fn push_next<D: Desk>(
     Some(more)
 }
 
-// The numbers of a p line and the column of the first, and up to three clauses behind it.
+// The numbers of a p line and the column of the first, and up to three clauses after it.
 fn clauses_text<D: Desk>(
     alloc: Global,
     reader: &mut ClauseReader,
@@ -61,7 +61,7 @@ fn clauses_text<D: Desk>(
     Some(text)
 }
 
-// What a reader tells of a file.
+// What a reader reads in a file.
 fn told_by<D: Desk>(alloc: Global, reader: &mut ClauseReader, desk: &mut D) -> Option<String>
     requires closed { IsClosed (D.state desk.old) }
     requires new { reader.old ≡ new_reader 0 }
@@ -113,7 +113,7 @@ fn push_form(alloc: Global, read: &CnfForms, place: usize, text: &mut String) ->
     text.push_str(line.as_str()).ok()
 }
 
-// The constraints of a whole text, each in a line, behind the numbers of its p line.
+// The constraints of a whole text, each in a line, after the numbers of its p line.
 fn forms_text(alloc: Global, read: &CnfForms) -> Option<String> {
     let mut text = format!(in alloc; "{} {}", read.head.vars, read.head.clauses).ok()?;
     for place in 0..read.forms.len() {

@@ -23,7 +23,7 @@ fn clauses(alloc: Global, text: &str) -> Option<Clauses> {
     Some(made)
 }
 
-// What the first line that is not taken is told, or whether they end with an empty clause.
+// Why the first line that is not accepted is refused, or whether they end with an empty clause.
 fn told_by(alloc: Global, checker: &mut LratChecker, lines: &str) -> Option<String> {
     for line in lines.lines() {
         if let Err(fault) = checker.line(line.as_bytes()) {
@@ -53,7 +53,7 @@ const THREE: &str = "x1 x2\n~x1\n~x2";
 
 const GREAT: &str = "x2147483647 x65536\n~x2147483647\n~x65536 x65535\n~x65535";
 
-// What is told of a clause of 70,000 literals, the first variable again and again, and of the line that it leads to.
+// What is answered of a clause of 70,000 literals, the first variable again and again, and of the line that it leads to.
 fn told_of_a_long_clause(alloc: Global) -> Option<String> {
     let mut lines = "4".to_string(alloc).ok()?;
     for _ in 0..70_000 {
@@ -63,7 +63,7 @@ fn told_of_a_long_clause(alloc: Global) -> Option<String> {
     told_of(alloc, 2, THREE, lines.as_str())
 }
 
-// Numbers of variables, clauses, lines, and what is told of these.
+// Numbers of variables, clauses, lines, and what is answered of these.
 const CASES: &[(u32, &str, &str, &str)] = &[
     (2, THREE, "4 0 2 3 1 0", "refuted"),
     (
@@ -135,7 +135,7 @@ const CASES: &[(u32, &str, &str, &str)] = &[
     ),
 ];
 
-// What a file of a desk is told as a refutation.
+// What is answered of a file of a desk as a refutation.
 fn refuted_on<D: Desk>(alloc: Global, desk: &mut D) -> Option<String>
     requires { IsClosed (D.state desk.old) }
 {
@@ -177,7 +177,7 @@ fn read_twice(alloc: Global, text: &str) -> Option<String> {
     read(alloc, text, 10, 3)
 }
 
-// Nothing is read behind a denied line.
+// Nothing is read after a denied line.
 const READ_TWICE: &[(&str, &str)] = &[
     (
         "4 0 2 3 0\n4 0 2 3 1 0\n",

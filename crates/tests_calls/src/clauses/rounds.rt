@@ -95,7 +95,7 @@ fn draw_lit(alloc: Global, state: &mut u32, text: &mut String) -> Option<()> {
     text.push_str(lit.as_str()).ok()
 }
 
-// Adds three such literals behind these coefficients, and the end of a statement.
+// Adds three such literals after these coefficients, and the end of a statement.
 fn draw_statement(
     alloc: Global,
     state: &mut u32,

@@ -36,7 +36,7 @@ const EIGHTS: &str = "+8 ~x1 +8 ~x2 +8 ~x3 +5 ~x4 >= 17 ;";
 // At most 2 of 4.
 const NEAR: &str = "+1 x1 +2 ~x2 +1 x3 >= 2 ;";
 
-// What is told of a derivation without other statements, whose fresh variables stand right behind those of the text.
+// What `report` says of a derivation without other statements, whose fresh variables come right after those of the text.
 fn report_of(alloc: Global, kind: Kind, opb: &str) -> Option<String> {
     let vars = read_opb(alloc, opb.as_bytes()).ok()?.vars;
     if vars > 1000 {

@@ -63,7 +63,7 @@ fn saturated(alloc: Global, text: &str) -> Option<String> {
 // Coefficients are cut.
 const SATURATED: &str = "5 x1 3 x2 1 x3 >= 3 ; => 3 x1 3 x2 1 x3 >= 3";
 
-// Without the variables of the literals behind `without`.
+// Without the variables of the literals after `without`.
 fn weakened(alloc: Global, text: &str) -> Option<String> {
     let (text, names) = text.split_once(" without ")?;
     let mut constraint = linear(alloc, text)?;
@@ -111,7 +111,7 @@ fn restricted_by(alloc: Global, constraint: &Linear, sets: &[Set]) -> Option<Str
     format!(in alloc; "{} {line}", names_set(sets, constraint)).ok()
 }
 
-// The same of a text, where the literals behind `under` are made true.
+// The same of a text, where the literals after `under` are made true.
 fn restricted(alloc: Global, text: &str) -> Option<String> {
     let (text, names) = text.split_once(" under ")?;
     let constraint = linear(alloc, text)?;

@@ -62,7 +62,7 @@ fn push_line(text: &mut String, line: Option<String>) -> Option<()> {
     text.push('\n').ok()
 }
 
-// The answers to lines, one after another, each of which may have the next clause behind `beside`.
+// The answers to lines, one after another, each of which may have the next clause after `beside`.
 fn answers(alloc: Global, db: &mut Database, lines: &str) -> Option<String> {
     let mut text = String::new(alloc);
     for step in lines.lines() {
@@ -169,7 +169,7 @@ fn ids_of_the_second(alloc: Global, db: &Database) -> Option<String> {
     Some(text)
 }
 
-// The same of a constraint, behind a literal of it and what is left without that.
+// The same of a constraint, after a literal of it and what is left without that.
 fn ids_of_derived(alloc: Global) -> Option<String> {
     let mut db = database_of(alloc, "+5 x1 +3 x2 +2 x3 >= 6 ;", 3)?;
     answers(alloc, &mut db, "rup +1 x1 >= 1 ; 1\npol 1 x1 w s")?;

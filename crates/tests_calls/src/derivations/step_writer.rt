@@ -12,7 +12,7 @@ use pb_family::{Derive, StepSink, are_below, are_ones};
 use pb_norm::AtMost;
 use std::alloc::Global;
 
-// Writes the derivation of pairs of variables below 4, and tells the next id.
+// Writes the derivation of pairs of variables below 4, and returns the next id.
 fn derive_pairs<D: Desk>(
     alloc: Global,
     desk: &mut D,

@@ -44,7 +44,7 @@ pub struct Sum<'a> {
     pub budget: u64,
 }
 
-// The clauses of a family behind a p line.
+// The clauses of a family after a p line.
 fn cnf_text<F: Family>(alloc: Global, family: &F, first: u32) -> Option<String>
     requires { VarsBelow first (F.constraint family.now).terms }
 {
@@ -61,7 +61,7 @@ fn cnf_text<F: Family>(alloc: Global, family: &F, first: u32) -> Option<String>
     format!(in alloc; "p cnf {vars} {}\n{lines}", family.clauses()).ok()
 }
 
-// The steps of a family between the lines that stand before and behind them, where so many constraints stand.
+// The steps of a family between the lines that stand before and after them, where so many constraints stand.
 fn proof_text<F: Derive>(alloc: Global, family: &F, first: u32, loaded: u64) -> Option<String>
     requires { VarsBelow first (F.Family.constraint family.now).terms }
 {

@@ -44,7 +44,7 @@ fn units_and_clause(alloc: Global, text: &str) -> Option<String> {
 
 const FORCED: &str = "5 x1 3 x2 2 x3 >= 6 ; =>  x1; x2 x3";
 
-// The constraints of a text, each behind a bar.
+// The constraints of a text, each after a bar.
 fn loaded_text(alloc: Global, text: &str) -> Option<String> {
     let constraints = loaded(alloc, text)?;
     let mut lines = String::new(alloc);

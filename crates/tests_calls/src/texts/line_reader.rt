@@ -14,7 +14,7 @@ const AMPLE: LineLimits = LineLimits {
     lines: 100,
 };
 
-// The next line behind its number, or `end`, or the fault.
+// The next line after its number, or `end`, or the fault.
 fn next_text<D: Desk>(alloc: Global, reader: &mut LineReader, desk: &mut D) -> Option<String>
     requires open { IsTrue ((D.state desk.old).view.reading reader.old.slot) }
     requires knows { reader.old.fault ≡ None → Knows reader.old.slot reader.old.ahead (D.state desk.old) }

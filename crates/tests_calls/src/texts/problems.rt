@@ -19,7 +19,7 @@ fn read(alloc: Global, text: &str) -> Option<String> {
     }
 }
 
-// Texts with their variables or first faults, which stand behind `=>`.
+// Texts with their variables or first faults, which stand after `=>`.
 const CASES: &str = "\
 +1 x1 >= 1 => 1:11: ;
 
@@ -107,7 +107,7 @@ fn names(alloc: Global, text: &str) -> Option<String> {
     names_of(alloc, &problem)
 }
 
-// Texts with the number and the names, which stand behind `=>`.
+// Texts with the number and the names, which stand after `=>`.
 const NAMED: &str = "\
 +1 x2 +1 ~x1 >= 1 ; => 2
 
@@ -164,7 +164,7 @@ fn products(alloc: Global, text: &str) -> Option<String> {
     products_of(alloc, &problem)
 }
 
-// Texts with their products and terms, which stand behind `=>`.
+// Texts with their products and terms, which stand after `=>`.
 const MULTIPLIED: &str = "\
 +1 x1 x2 >= 1 ; => 1 2 ; 3:1
 
@@ -178,7 +178,7 @@ min: +1 x2 x3 ;
 * #variable= 7
 +1 b x1 +1 ~b >= 1 ; => 1 8 ; 9:1 -8:1";
 
-// What is told of a text of pieces, each so many times.
+// What a text of pieces, each so many times, is read as.
 fn read_repeated(alloc: Global, pieces: &[(&str, usize)]) -> Option<String> {
     let mut text = String::new(alloc);
     for (piece, times) in pieces {

@@ -88,7 +88,7 @@ impl<'a> System for Scripted<'a> {
 // What four calls of a desk answer: a count of bytes, 0 where there are none to count, or that they fail.
 type Answers = [Option<usize>; 4];
 
-// Reads the next bytes of slot 0 into the room. Behind the end there are none, and nothing is asked for.
+// Reads the next bytes of slot 0 into the room. After the end there are none, and nothing is asked for.
 fn read_next<D: Desk>(desk: &mut D, room: &mut [u8], is_over: &mut bool) -> Option<usize>
     requires open { IsTrue ((D.state desk.old).view.reading 0) }
     requires knows { (D.state desk.old).ended 0 ≡ is_over.old }

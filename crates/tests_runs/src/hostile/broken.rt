@@ -117,7 +117,7 @@ fn broken_of<'x>(
     broken(alloc, Asked { words, texts }, at)
 }
 
-// What is told of a statement of one term too many, which nothing ends.
+// What is answered of a statement of one term too many, which nothing ends.
 fn told_of_many(alloc: Global) -> Option<String> {
     let text = "1 x1 ".repeat(alloc, 1_048_577).ok()?;
     let asked = Asked {

@@ -18,7 +18,7 @@ fn assert_due(rt: &impl Abort, is_due: bool, words: &str, text: &str) {
     assert!(rt; is_due, "{words} at {text}");
 }
 
-// With each of these words, this is told of the text, and no file is made.
+// With each of these words, this is answered of the text, and no file is made.
 pub fn each_told<R: Abort + Alloc<A = Global>>(rt: &R, cases: &[(&str, &str, &str)]) {
     for &(words, text, line) in cases {
         let found = told(rt.alloc(), words, &[("a", text.as_bytes())]);
@@ -42,7 +42,7 @@ pub fn each_encoded<R: Abort + Alloc<A = Global>>(rt: &R, cases: &[(&str, &str, 
     }
 }
 
-// With each of these words, this is told of the problem and what a solver printed.
+// With each of these words, this is answered of the problem and what a solver printed.
 pub fn each_decoded<R: Abort + Alloc<A = Global>>(rt: &R, cases: &[(&str, &str, &str, &str)]) {
     for &(words, opb, printed, line) in cases {
         let found = decoded(rt.alloc(), words, opb, printed);
@@ -58,7 +58,7 @@ pub fn each_derived<R: Abort + Alloc<A = Global>>(rt: &R, cases: &[(&str, &str, 
     }
 }
 
-// With each of these words, this is told of a derivation with these lines behind its first, beside the problem and the CNF.
+// With each of these words, this is answered of a derivation with these lines after its first, beside the problem and the CNF.
 pub fn each_checked<R: Abort + Alloc<A = Global>>(
     rt: &R,
     opb: &str,
@@ -71,7 +71,7 @@ pub fn each_checked<R: Abort + Alloc<A = Global>>(
     }
 }
 
-// With each of these words, this is told of a refutation, beside the problem, the CNF and the derivation.
+// With each of these words, this is answered of a refutation, beside the problem, the CNF and the derivation.
 pub fn each_refuted<R: Abort + Alloc<A = Global>>(
     rt: &R,
     texts: [&str; 3],

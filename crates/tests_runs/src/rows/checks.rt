@@ -6,7 +6,7 @@ use super::{judged, told_of};
 use crate::runs::run_over;
 use std::alloc::Global;
 
-// What is told of a derivation with these lines behind its first, beside the problem `a` and the CNF `c`.
+// What is answered of a derivation with these lines after its first, beside the problem `a` and the CNF `c`.
 pub fn checked(alloc: Global, words: &str, opb: &str, cnf: &str, lines: &str) -> Option<String> {
     let proof = format!(in alloc; "pseudo-Boolean derivation profile 1\n{lines}").ok()?;
     judged(alloc, words, opb, cnf.as_bytes(), proof.as_bytes(), "")
@@ -52,7 +52,7 @@ const OF_TWO: &[(&str, &str, &str)] = &[
         "f 2\npol 1 42535295865117307932921825928971026432 *\n",
         "7 pbcnf: PROOF line 3: width",
     ),
-    // A step is told of at its first fault.
+    // A step is reported at its first fault.
     (CHECK, "f 2\npol\n", "7 pbcnf: PROOF line 3: stack"),
     (
         CHECK,
@@ -160,7 +160,7 @@ fn long_derivation(alloc: Global) -> Option<String> {
     format!(in alloc; "pseudo-Boolean derivation profile 1\n{lines}{comments}").ok()
 }
 
-// What is told of a derivation on a desk that moves a byte in a call, and whose millionth call fails.
+// What is answered of a derivation on a desk that moves a byte in a call, and whose millionth call fails.
 fn checked_slowly(alloc: Global, proof: &str) -> Option<String> {
     let texts = [
         ("a", ONE_OF_TWO.as_bytes()),

@@ -3,7 +3,7 @@ use super::texts::{DECODE, NO_MODEL, ONE_OF_TWO, PRINTED, SOLUTION, VIOLATED};
 use super::told;
 use std::alloc::Global;
 
-// What is told of the problem `a` and what a solver printed, `m`.
+// What is answered of the problem `a` and what a solver printed, `m`.
 pub fn decoded(alloc: Global, words: &str, opb: &str, printed: &str) -> Option<String> {
     let texts = [("a", opb.as_bytes()), ("m", printed.as_bytes())];
     told(alloc, words, &texts)
@@ -32,7 +32,7 @@ const SOLUTIONS: &[(&str, &str, &str, &str)] = &[
         "o 2\ns SATISFIABLE\nv x1 -x2\n",
     ),
     (DECODE, "", "s SATISFIABLE\n", "s SATISFIABLE\nv\n"),
-    // Variables with free names stand behind those with numbers.
+    // Variables with free names stand after those with numbers.
     (
         DECODE,
         "+1 rain +1 x2 +1 ~sun >= 2 ;\n",
@@ -53,7 +53,7 @@ const OTHERS: &[(&str, &str, &str, &str)] = &[
     (DECODE, ONE_OF_TWO, "s SATISFIABLE\nv 1 2 0\n", VIOLATED),
     (DECODE, ONE_OF_TWO, "s SATISFIABLE\nv 0\n", VIOLATED),
     (DECODE, ONE_OF_TWO, "s SATISFIABLE\n", VIOLATED),
-    // The first of those that are violated is told, and the last is tested too.
+    // The first of those that are violated is reported, and the last is tested too.
     (
         DECODE,
         "+1 x1 >= 1 ;\n+1 x1 +1 x2 >= 2 ;\n+1 x2 >= 1 ;\n",

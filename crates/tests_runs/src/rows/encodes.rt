@@ -59,7 +59,7 @@ const PLAIN: &[(&str, &str, &str, &str)] = &[
         "p cnf 2 2\n-1 0\n-2 0\n",
         "variables 2 original 2 fresh 0 clauses 2\nnothing 1\n",
     ),
-    // The first line tells of one variable more than the sum has; the objective has no clause.
+    // The first line declares one variable more than the sum has; the objective has no clause.
     (
         ENCODE,
         "* #variable= 3 #constraint= 1 #equal= 0\nmin:+1 x1;\n* note\n2 x1 03 ~x02>=+2;\n",
@@ -68,7 +68,7 @@ const PLAIN: &[(&str, &str, &str, &str)] = &[
     ),
 ];
 
-// A product of literals is a variable behind the others, which its own clauses come first to tie to them.
+// A product of literals is a variable after the others, which its own clauses come first to tie to them.
 const PRODUCTS: &[(&str, &str, &str, &str)] = &[
     (
         ENCODE,
@@ -193,7 +193,7 @@ const FAMILIES: &[(&str, &str, &str, &str)] = &[
 -5 7 0\n-5 -1 6 0\n-6 8 0\n-6 -2 0\n-7 -2 8 0\n-8 -3 9 0\n-9 -4 0\n5 0\n",
         "variables 9 original 4 fresh 5 clauses 8\ndiagram 1\n",
     ),
-    // Free names are numbered behind the others, in the order in which they come first.
+    // Free names are numbered after the others, in the order in which they come first.
     (
         ENCODE,
         "+1 rain +1 x2 +1 ~sun >= 2 ;\n",

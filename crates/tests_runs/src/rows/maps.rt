@@ -14,7 +14,7 @@ const CASES: &[(&str, &str, &str)] = &[
         "min: +1 sun ;\n+1 rain +1 sun >= 1 ;\n+1 ~rain >= 0 ;\n",
         "1 sun\n2 rain\n",
     ),
-    // The first line tells of more variables than occur.
+    // The first line declares more variables than occur.
     (
         MAP,
         "* #variable= 5 #constraint= 1\n+1 a +1 x2 >= 1 ;\n",
@@ -33,7 +33,7 @@ const CASES: &[(&str, &str, &str)] = &[
         "1 pbcnf: OPB 1:4: expected a literal",
     ),
     (MAP, "+1 a >= 1", "1 pbcnf: OPB 1:10: expected ;"),
-    // One variable is too much for the greatest number that the first line may tell.
+    // One variable is too much for the greatest number that the first line may declare.
     (
         MAP,
         "* #variable= 2147483647 #constraint= 1\n+1 a >= 1 ;\n",
@@ -42,7 +42,7 @@ const CASES: &[(&str, &str, &str)] = &[
     ("pbcnf map b", "", "4 pbcnf: read fault"),
 ];
 
-// What is told of a problem whose one name has so many bytes.
+// What is answered of a problem whose one name has so many bytes.
 fn mapped_at(alloc: Global, count: usize) -> Option<String> {
     let name = "a".repeat(alloc, count).ok()?;
     let text = format!(in alloc; "+1 {name} >= 1 ;\n").ok()?;

@@ -22,7 +22,7 @@ const WORSE: &str = "s SATISFIABLE\nv 1 2 0\n";
 // The clauses of the pair with a bound of 0 are `1 2`, `-1` and `-2`.
 const REFUTED: &str = "4 0 2 3 1 0\n";
 
-// A problem, what a solver printed of it, a refutation, and what is told of them beside the files that are made of the pair with the
+// A problem, what a solver printed of it, a refutation, and what is answered of them beside the files that are made of the pair with the
 // bound 0.
 const CASES: &[(&str, &str, &str, &str)] = &[
     (PAIR, LEAST, REFUTED, "o 1\ns OPTIMUM FOUND\nv x1 -x2\n"),
@@ -55,7 +55,7 @@ const CASES: &[(&str, &str, &str, &str)] = &[
         "1 pbcnf: MODEL 1:5: expected opposite",
     ),
     (AIMLESS, LEAST, REFUTED, "1 pbcnf: OPB: no objective"),
-    // That there is no objective is told before what the solver's text says.
+    // That there is no objective is reported before what the solver's text says.
     (AIMLESS, "x\n", "x\n", "1 pbcnf: OPB: no objective"),
     (
         "+1 x1\n",
@@ -65,7 +65,7 @@ const CASES: &[(&str, &str, &str, &str)] = &[
     ),
 ];
 
-// What is told of these texts, of which the CNF and the derivation are those that a run made.
+// What is answered of these texts, of which the CNF and the derivation are those that a run made.
 fn judged_beside(alloc: Global, run: &Run, opb: &str, model: &str, lrat: &str) -> Option<String> {
     let texts = [
         ("a", opb.as_bytes()),

@@ -27,13 +27,13 @@ const CASES: &[(&str, &str, &str)] = &[
 ];
 
 // The derivation comes before the refutation, which is not there.
-const BEHIND: &[(&str, &str, &str)] = &[(
+const UNFINISHED: &[(&str, &str, &str)] = &[(
     "pbcnf refute a c p b",
     "",
     "7 pbcnf: PROOF line 5: clauses left",
 )];
 
-// What is told of a refutation of what is encoded of the problem, beside the derivation that is made with it.
+// What is answered of a refutation of what is encoded of the problem, beside the derivation that is made with it.
 fn refuted(alloc: Global, opb: &str, lrat: &str) -> Option<String> {
     let run = run_widely(alloc, "pbcnf encode a c p", opb.as_bytes())?;
     judged_by(alloc, &run, REFUTE, opb, lrat)
@@ -42,7 +42,11 @@ fn refuted(alloc: Global, opb: &str, lrat: &str) -> Option<String> {
 #[test]
 fn refutations(rt: HostRuntime) {
     each_refuted(&rt, [UNSATISFIABLE, UNSATISFIABLE_CNF, ALL_OUT], CASES);
-    each_refuted(&rt, [UNSATISFIABLE, UNSATISFIABLE_CNF, ENDS_EARLY], BEHIND);
+    each_refuted(
+        &rt,
+        [UNSATISFIABLE, UNSATISFIABLE_CNF, ENDS_EARLY],
+        UNFINISHED,
+    );
     let found = refuted(rt.alloc(), PIGEONS, NO_PIGEONS);
     assert_found(&rt, found, "refuted\n", REFUTE, "five pigeons");
 }

@@ -2,7 +2,7 @@
 
 use std::alloc::Global;
 
-// What is counted in any case. Halves of equalities that are made into one are counted behind them, where there are any.
+// What is counted in any case. Halves of equalities that are made into one are counted after them, where there are any.
 const COUNTED: [&str; 11] = [
     "nothing",
     "empty",
@@ -17,7 +17,7 @@ const COUNTED: [&str; 11] = [
     "adder",
 ];
 
-// The number behind a word, or 0 where the word is not there.
+// The number after a word, or 0 where the word is not there.
 fn number_behind<'a>(counts: &'a str, word: &str) -> &'a str {
     let mut is_next = false;
     for part in counts.split(' ') {
@@ -36,7 +36,7 @@ fn push_count(alloc: Global, counts: &str, word: &str, said: &mut String) -> Opt
     said.push_str(count.as_str()).ok()
 }
 
-// The counts with those that are 0, each behind a blank.
+// The counts with those that are 0, each after a blank.
 fn all_counts(alloc: Global, counts: &str) -> Option<String> {
     let mut said = String::new(alloc);
     for word in COUNTED {
@@ -48,7 +48,7 @@ fn all_counts(alloc: Global, counts: &str) -> Option<String> {
     Some(said)
 }
 
-/// The whole of what is said: the line of sizes, the line of counts with those that are 0, and the lines behind.
+/// The whole of what is said: the line of sizes, the line of counts with those that are 0, and the lines after.
 pub fn summary(alloc: Global, short: &str) -> Option<String> {
     let (sizes, rest) = short.split_once("\n")?;
     let (counts, rows) = rest.split_once("\n")?;

@@ -30,7 +30,7 @@ const ENCODED: &[(&str, &str, &str, &str)] = &[
         UNIT,
         SAID_UNIT,
     ),
-    // Behind the clauses of a bound, and the fresh variables of a constraint.
+    // After the clauses of a bound, and the fresh variables of a constraint.
     (
         "pbcnf encode a c --table --at-most=2",
         COSTS_BY_LINES,

@@ -45,7 +45,7 @@ const UNUSABLE: &[&str] = &[
     "pbcnf wcnf a w --at-most=+1",
     "pbcnf wcnf a w --at-most-minus=",
     "pbcnf refute a c p l --at-most-minus=1 --at-most-minus=1",
-    // A table has no value, stands once, and behind `encode` alone.
+    // A table has no value, stands once, and after `encode` alone.
     "pbcnf encode a c --table=1",
     "pbcnf encode a c --table --table",
     "pbcnf wcnf a w --table",

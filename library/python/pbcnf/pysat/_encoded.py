@@ -10,13 +10,13 @@ from pbcnf.conditions import Statement
 from pbcnf.pysat.formula import CNF, greatest, renamed
 
 class Place(NamedTuple):
-    """Where the fresh variables are from: behind the last that is taken, or from a pool."""
+    """Where the fresh variables are from: after the last that is taken, or from a pool."""
 
     top_id: Optional[int]
     vpool: Any
 
     def first(self, literals: Iterable[int]) -> int:
-        """The first variable behind those of the literals and those that are taken."""
+        """The first variable after those of the literals and those that are taken."""
         taken = 0 if self.vpool is not None else self.top_id or 0
         return max(taken, greatest(literals)) + 1
 

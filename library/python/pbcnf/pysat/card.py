@@ -55,7 +55,7 @@ class CardEnc:
     reaches all that it forces.
 
     lits: the literals. bound: how many of them.
-    top_id: the last variable that is taken; fresh ones come behind it, and behind the literals. vpool: a pool that gives them.
+    top_id: the last variable that is taken; fresh ones come after it, and after the literals. vpool: a pool that gives them.
     encoding: one of `EncType`. strict: whether only that encoding will do.
     """
 

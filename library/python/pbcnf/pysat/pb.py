@@ -56,7 +56,7 @@ class PBEnc:
     that each half of it forces, but where it goes to the adder.
 
     lits: the literals, or pairs of a literal and its weight. weights: a weight for each, which may be negative. bound: the right side.
-    top_id: the last variable that is taken; fresh ones come behind it, and behind the literals. vpool: a pool that gives them.
+    top_id: the last variable that is taken; fresh ones come after it, and after the literals. vpool: a pool that gives them.
     encoding: one of `EncType`. conditionals: literals under which alone the constraint is asked. strict: whether only that
     encoding will do.
     """

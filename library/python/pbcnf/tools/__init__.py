@@ -6,4 +6,4 @@ said to have no solution was refuted by its `refute`. So nothing here, and no so
 """
 
 COMMANDS = {"cheapest": "minimize", "core": "core", "hints": "hints", "minimize": "minimize", "solve": "solve", "tidy": "tidy", "veripb": "veripb"}
-"""The module of each command, by the command's name behind `pbcnf-`. `cheapest` is the older name of `minimize`."""
+"""The module of each command, by the command's name after `pbcnf-`. `cheapest` is the older name of `minimize`."""

@@ -24,7 +24,7 @@ from pbcnf.tools.watch import Interrupted, Watch
 from pbcnf.tools.workspace import Workspace, put_whole, workspace_of
 
 _NAME = "pbcnf-core"
-_ABOUT = """Prints statements of an OPB problem without solutions that have none by themselves, each behind its line in the text, and then
+_ABOUT = """Prints statements of an OPB problem without solutions that have none by themselves, each after its line in the text, and then
 `refuted`, which the program says of them. Where there is a solution it prints that. --seconds is for how long statements are left out,
 30 where it is not given; --solver is CaDiCaL, by its name or path."""
 _STATUSES = """exit status:
@@ -78,7 +78,7 @@ class _Core:
         self._lrat = ""
 
     def run(self, problem: bytes, seconds: float, keep: Optional[str]) -> int:
-        """Prints the core behind its refutation, or the solution."""
+        """Prints the core after its refutation, or the solution."""
         proved = self._pose(problem)
         if self._refute(proved) is Verdict.MODEL:
             return self._print_solution(proved)

@@ -68,7 +68,7 @@ class _Refutation:
         self._numbers = array("q", [0])
         # Which clause says by itself that a literal is true.
         self._units: Dict[int, int] = {}
-        # For added clauses of the core: the reasons, and the clauses that nothing needs behind it.
+        # For added clauses of the core: the reasons, and the clauses that nothing needs after it.
         self._reasons: Dict[int, List[int]] = {}
         self._ends: Dict[int, List[int]] = {}
         self._search: Optional[_Search] = None
@@ -109,7 +109,7 @@ class _Refutation:
                     needed[reason] = 1
 
     def _justify(self, id: int) -> List[int]:
-        """The clauses from which one follows, each behind those that it needs itself."""
+        """The clauses from which one follows, each after those that it needs itself."""
         literals = self._clauses[id]
         hints = list(map(int, self._clauses.words(id)[1].split()[:-1]))
         if not all(0 < hint < id for hint in hints):
@@ -182,7 +182,7 @@ class _Refutation:
         return None
 
     def lines(self, count: int) -> Iterator[str]:
-        """The text, forwards, numbered behind so many clauses of the CNF: what is added, and what nothing needs any more."""
+        """The text, forwards, numbered after so many clauses of the CNF: what is added, and what nothing needs any more."""
         numbers = self._numbers
         for number, id in enumerate(sorted(self._reasons), count + 1):
             numbers[id] = number
@@ -221,4 +221,4 @@ class _Search:
                 self._clauses.forget(self._end)
                 if self._held[self._end] < len(self._clauses.trail):
                     self._clauses.take_back(self._held[self._end])
-        return self._clauses.behind(self._wrong) if self._wrong else self._clauses.justify(literals)
+        return self._clauses.support(self._wrong) if self._wrong else self._clauses.justify(literals)

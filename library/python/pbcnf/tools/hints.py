@@ -97,7 +97,7 @@ class _Hints:
         # How much was true before a clause was added.
         self._held: List[int] = [0]
         self._wrong = 0
-        # For added clauses of the core, and at 0 for the empty one: the reasons, and the clauses that nothing needs behind it.
+        # For added clauses of the core, and at 0 for the empty one: the reasons, and the clauses that nothing needs after it.
         self._reasons: Dict[int, List[int]] = {}
         self._ends: Dict[int, List[int]] = {}
 
@@ -148,7 +148,7 @@ class _Hints:
     def justify_core(self) -> None:
         """Goes backwards, and finds the reasons of each added clause on which the empty one rests."""
         clauses = self._clauses
-        self._rest_on(clauses.behind(self._wrong), 0)
+        self._rest_on(clauses.support(self._wrong), 0)
         for event in reversed(self._events):
             if not event.is_added:
                 clauses.revive(event.number)

@@ -9,7 +9,7 @@ second, and for small problems that is enough.
 usage: python3 -m pbcnf.tools.learning OPB BOUND [CNF PROOF]
 
 Prints the lines of an optimizer: `v` and `o` for each solution of at most the bound, and `s OPTIMUM FOUND` when no other is better. With
-CNF and PROOF those of a solver: the first solution behind `s SATISFIABLE`, or `s UNSATISFIABLE`, once these refute that there is any.
+CNF and PROOF those of a solver: the first solution after `s SATISFIABLE`, or `s UNSATISFIABLE`, once these refute that there is any.
 """
 
 from __future__ import annotations
@@ -159,7 +159,7 @@ class Learner:
 
     def _reasons_at_0(self, id: int, literal: int) -> List[int]:
         """The constraint or clause that makes a literal true, or is false, for 0, in level 0, and the units that are needed."""
-        others = self._propagation.behind(id, literal, self._seen)
+        others = self._propagation.support(id, literal, self._seen)
         return [*sorted({self._units[-other] for other in others}), id]
 
     def _note_units(self, begin: int) -> None:
@@ -203,7 +203,7 @@ class Learner:
             reasons.append(wrong)
             if wrong in self._scores:
                 self._scores[wrong] += self._growth
-            for other in propagation.behind(wrong, literal, seen):
+            for other in propagation.support(wrong, literal, seen):
                 variable = abs(other)
                 if propagation.level[variable] == 0:
                     units.add(self._units[-other])
@@ -230,10 +230,10 @@ class Learner:
         kept: List[int] = []
         for other in clause:
             reason = propagation.reason[abs(other)]
-            behind = propagation.behind(reason, -other, self._seen) if reason else []
-            if reason and all(self._seen[abs(literal)] or propagation.level[abs(literal)] == 0 for literal in behind):
+            support = propagation.support(reason, -other, self._seen) if reason else []
+            if reason and all(self._seen[abs(literal)] or propagation.level[abs(literal)] == 0 for literal in support):
                 reasons.append(reason)
-                units.update(self._units[-literal] for literal in behind if propagation.level[abs(literal)] == 0)
+                units.update(self._units[-literal] for literal in support if propagation.level[abs(literal)] == 0)
             else:
                 kept.append(other)
         return kept

@@ -52,7 +52,7 @@ def at_most(terms: Terms, bound: int) -> Constraint:
 
 
 class _Reader:
-    """Goes through the tokens twice: numbers go by names, and products stand behind all of them."""
+    """Goes through the tokens twice: numbers go by names, and products stand after all of them."""
 
     def __init__(self, text: bytes) -> None:
         told = _TOLD.match(text)

@@ -69,7 +69,7 @@ class _Mender:
         self.changes.append(Change(start, self.text[start:end], new, why))
 
     def _lead_in(self, at: int) -> int:
-        """Where the next piece begins, behind comments, the mark of some editors, and the names of statements."""
+        """Where the next piece begins, after comments, the mark of some editors, and the names of statements."""
         if at == 0 and self.text.startswith(_MARK):
             self._change(0, len(_MARK), b"", "a byte order mark")
             at = len(_MARK)
@@ -116,7 +116,7 @@ class _Mender:
         return words.end
 
     def _end_objective(self, words: Words, terms: List[Term]) -> None:
-        """Goes behind the `;` of an objective, which has no constants."""
+        """Goes past the `;` of an objective, which has no constants."""
         for term in terms:
             if not term.literals:
                 raise Unreadable(term.start, "a constant in the objective, which changes no choice: leave it out")
@@ -180,7 +180,7 @@ class _Mender:
                 self.changes.append(Change(term.start, self.text[term.start:term.end], term.mended(self.text), why))
 
     def _mend_right(self, relation: Word, meant: bytes, right: Term) -> None:
-        """Mends a relation and the integer behind it where they stand."""
+        """Mends a relation and the integer after it where they stand."""
         written = self.text[right.start:right.end]
         shift = _SHIFTS.get(meant, 0)
         new = _at_least(meant)
@@ -221,7 +221,7 @@ def _at_least(meant: bytes) -> bytes:
 
 
 def _with_comments(spelled: bytes, words: Words) -> bytes:
-    """A piece that is written anew, and behind it the comments that stood within."""
+    """A piece that is written anew, and after it the comments that stood within."""
     return spelled + b"".join(b" " + comment.rstrip() + b"\n" for comment in words.comments)
 
 

@@ -30,7 +30,7 @@ _STATUSES = """exit status:
   73  no temporary files could be made
   75  a signal came, the time was over, or nothing can be refuted, since there
       is no CaDiCaL or as --unproved asks: the best solution so far was
-      printed behind s SATISFIABLE, or s UNKNOWN
+      printed after s SATISFIABLE, or s UNKNOWN
   else that of encode, decode, refute or optimum; the best solution so far was printed too
 """
 

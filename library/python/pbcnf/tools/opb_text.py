@@ -14,7 +14,7 @@ _TOKEN = re.compile(rb">=|<=|[;=<>]|[^ \t\r\n;=<>:]*:|[^ \t\r\n;=<>:]+")
 _INTEGER = re.compile(rb"[+-]?[0-9]+\Z")
 _LITERAL = re.compile(rb"~?(?!x0+\Z)[A-Za-z_][A-Za-z0-9_\[\]{}^-]*\Z")
 _RELATIONS = (b">=", b"=", b"<=")
-# What may stand behind a token of each kind.
+# What may stand after a token of each kind.
 _TERM, _FACTOR, _FURTHER, _RIGHT, _END = "term", "factor", "further", "right", "end"
 
 
@@ -82,7 +82,7 @@ def is_literal(word: bytes) -> bool:
 
 
 def end_of_piece(text: bytes, at: int, is_objective: bool) -> Optional[int]:
-    """Behind the `;` of the statement that begins here, or of the objective behind its `min:`; none where the grammar is left."""
+    """After the `;` of the statement that begins here, or of the objective after its `min:`; none where the grammar is left."""
     state = _TERM
     while state:
         token = token_at(text, at)
@@ -94,7 +94,7 @@ def end_of_piece(text: bytes, at: int, is_objective: bool) -> Optional[int]:
 
 
 def _step(state: str, word: bytes, is_objective: bool) -> Optional[str]:
-    """What may stand behind a word: the empty word behind the last one, and none where the word itself may not stand there."""
+    """What may stand after a word: the empty word after the last one, and none where the word itself may not stand there."""
     if state in (_TERM, _FURTHER) and _INTEGER.match(word):
         return _FACTOR
     if state in (_FACTOR, _FURTHER) and _LITERAL.match(word):
@@ -115,7 +115,7 @@ def statements(text: bytes) -> List[Statement]:
 
 
 def _pieces(text: bytes) -> Iterator[Tuple[int, int, int, bytes]]:
-    """The first byte of each piece, the one behind its `;`, its line, and its relation, which the objective lacks."""
+    """The first byte of each piece, the one after its `;`, its line, and its relation, which the objective lacks."""
     start, line, counted, relation = -1, 1, 0, b""
     at = 0
     while True:

@@ -2,7 +2,7 @@
 weights, else the search over the constraints themselves.
 
 It keeps what it has learned from one solution to the next, which a new run for each bound does not. What it prints is tested as any
-other solution. That it finds nothing better is no proof, but tells what to have refuted next.
+other solution. That it finds nothing better is no proof, but shows what to have refuted next.
 """
 
 from __future__ import annotations
@@ -46,7 +46,7 @@ class Descent:
             elif line.startswith(b"o "):
                 model, values = values, b""
             self.has_ended = self.has_ended or line == b"s OPTIMUM FOUND"
-        # A model goes on behind what was said until now.
+        # A model goes on after what was said until now.
         self._lines = values + self._lines
         return None if model is None else b"s SATISFIABLE\n" + model
 

@@ -39,7 +39,7 @@ def tested(program: Program, run: Run, model: str, bound: Sequence[str]) -> Solu
 
 
 class Told(Protocol):
-    """Who is told what is asked for."""
+    """Who hears what is asked for."""
 
     def asks(self, bound: Optional[int], size: Summary) -> None:
         """The solver is about to look for a solution of at most this value, over a CNF of this size."""

@@ -75,7 +75,7 @@ class Refutation(NamedTuple):
 
 
 class Program:
-    """The proved program over one problem, from a file of this name. What it tells on standard error is the user's to read."""
+    """The proved program over one problem, from a file of this name. What it prints on standard error is the user's to read."""
 
     def __init__(self, path: str, watch: Watch, workspace: Workspace, problem: bytes, name: str) -> None:
         self._path = path

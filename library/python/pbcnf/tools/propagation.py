@@ -33,7 +33,7 @@ class Group:
         """How much of the trail has gone through these clauses."""
 
     def put(self, number: int, clause: List[int]) -> None:
-        """Puts a clause in, if it is short, behind those that are there."""
+        """Puts a clause in, if it is short, after those that are there."""
         if len(clause) == 2:
             one, two = clause
             self.pairs[one].append((two, number))
@@ -58,7 +58,7 @@ class Group:
 
 
 class Clauses:
-    """The clauses, and the literals that they make true, one behind the other."""
+    """The clauses, and the literals that they make true, one after the other."""
 
     def __init__(self, variables: int) -> None:
         places = 2 * variables + 1
@@ -164,12 +164,12 @@ class Clauses:
                 self.assign(-literal, 0)
         else:
             wrong = self.propagate()
-        reasons = self.behind(wrong) if wrong else None
+        reasons = self.support(wrong) if wrong else None
         self.take_back(before)
         return reasons
 
-    def behind(self, wrong: int) -> List[int]:
-        """The clauses on which a false one rests, each behind those that it needs itself, and that one."""
+    def support(self, wrong: int) -> List[int]:
+        """The clauses on which a false one rests, each after those that it needs itself, and that one."""
         order: List[int] = []
         seen = set()
         stack = [(wrong, iter(self.literals[wrong]))]

@@ -53,7 +53,7 @@ def make_lrat(attempts: Sequence[Attempt], watch: Watch, workspace: Workspace) -
 
 
 def _ready(attempt: Attempt, workspace: Workspace) -> str:
-    """The path of the LRAT text that is there: behind a derivation of the empty clause it has no line."""
+    """The path of the LRAT text that is there: after a derivation of the empty clause it has no line."""
     return attempt.files.reasons if attempt.solver.reasons is Reasons.LRAT else workspace.write("lrat", b"")
 
 

@@ -1,6 +1,6 @@
 """Which bound is asked for next, and how far the solver may go for it, by those who look from above and from below.
 
-Bounds are told by places: those of the values that the sum can have, from the lower bound to before the best solution. What the
+Bounds are given by places: those of the values that the sum can have, from the lower bound to before the best solution. What the
 solver does not decide within the effort is taken nearer to where it is easier, up to the nearest, where only more effort is left. So
 each call moves one of the two bounds or leads to one that does, and none takes long for nothing.
 """
@@ -20,7 +20,7 @@ _MANY = 1000
 
 
 class Seeker(Protocol):
-    """Who chooses the next bound, and is told what came of it before it chooses another."""
+    """Who chooses the next bound, and hears what came of it before it chooses another."""
 
     @property
     def effort(self) -> Optional[Effort]:

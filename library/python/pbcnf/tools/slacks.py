@@ -14,7 +14,7 @@ from pbcnf.tools.watching import watch_another
 
 
 class Propagation:
-    """Constraints with the ids from 1 on, clauses with ids behind them, and the literals that they make true."""
+    """Constraints with the ids from 1 on, clauses with ids after them, and the literals that they make true."""
 
     def __init__(self, variables: int, constraints: Sequence[Constraint]) -> None:
         places = 2 * variables + 1
@@ -115,7 +115,7 @@ class Propagation:
         return 0
 
     def _visit_found(self, gone: int) -> int:
-        """Goes through the constraints with a literal that became false; all get their slack, also behind a false one."""
+        """Goes through the constraints with a literal that became false; all get their slack, also after a false one."""
         slack, most, true, false = self._slack, self._most, self.true, self.false
         wrong = 0
         for id, coefficient in self._found[gone]:
@@ -155,7 +155,7 @@ class Propagation:
         watchers[gone] = [*kept, *visited]
         return wrong
 
-    def behind(self, id: int, literal: int, favoured: bytearray) -> List[int]:
+    def support(self, id: int, literal: int, favoured: bytearray) -> List[int]:
         """False literals because of which this constraint or clause makes a literal true, or is false, for 0. Where they are more than
         enough, the last ones are left out that are not of favoured variables."""
         clause = self.clauses.get(id)

@@ -81,7 +81,7 @@ class _Run:
         """How many solutions were printed."""
 
     def run(self) -> int:
-        """Prints solutions, each of which is ruled out behind it, until there are enough, or no other."""
+        """Prints solutions, each of which is ruled out after it, until there are enough, or no other."""
         wanted = None if self._given.all else self._given.count or 1
         text = self._problem
         while self.count != wanted:

@@ -17,7 +17,7 @@ from pbcnf.tools.watch import Running, Watch
 KNOWN = ("cadical", "kissat", "cryptominisat5", "clasp", "picosat", "glucose", "minisat")
 # The words that each known solver is given so that it prints `s` and `v` lines and little else.
 _WORDS: Dict[str, Tuple[str, ...]] = {"cadical": ("-q",), "kissat": ("-q",), "cryptominisat5": ("--verb", "0"), "glucose": ("-model",)}
-# How those that can be limited are told the most conflicts of a run.
+# How those that can be limited are given the most conflicts of a run.
 _CONFLICTS = {"cadical": ("-c", "%d"), "kissat": ("--conflicts=%d",), "cryptominisat5": ("--maxconfl", "%d")}
 # What MiniSat's file of the result has for the lines of the competitions.
 _MINISAT = {b"SAT": b"s SATISFIABLE", b"UNSAT": b"s UNSATISFIABLE", b"INDET": b"s UNKNOWN"}
@@ -102,7 +102,7 @@ class Solver:
             command.append(files.model + _MINISAT_FILE)
         told = None
         if files.reasons and self.reasons is Reasons.FRAT:
-            # What it tells as it is ended is of no use.
+            # What it prints as it is ended is of no use.
             told = subprocess.DEVNULL
             command = within(_ROOM, command)
         with open(files.model, "wb") as said:
@@ -243,7 +243,7 @@ def _translate_minisat(model: str) -> None:
 
 
 def _verdict(model: str) -> Optional[Verdict]:
-    """What the `s` line of a text says, if there is one; clasp prints it last, behind its `v` lines."""
+    """What the `s` line of a text says, if there is one; clasp prints it last, after its `v` lines."""
     said = {b"s " + verdict.value.encode(): verdict for verdict in Verdict}
     with open(model, "rb") as file:
         for line in file:

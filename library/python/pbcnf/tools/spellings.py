@@ -58,7 +58,7 @@ class Gap(NamedTuple):
 
 
 def skip(text: bytes, start: int, gaps: List[Gap], comments: List[bytes], behind: str = NOTHING, is_right: bool = False) -> int:
-    """Where the next word begins, behind white bytes and comments.
+    """Where the next word begins, after white bytes and comments.
 
     `behind` is the kind of the word that ends where this starts: on the line of a number or a name a `*` may be one of a product.
     """
@@ -85,7 +85,7 @@ def skip(text: bytes, start: int, gaps: List[Gap], comments: List[bytes], behind
 def _multiplies(text: bytes, at: int, behind: str, is_right: bool) -> bool:
     """Whether a `*` on the line of a number or a name is one of a product, and no comment; refuses what may be either.
 
-    Without blanks before it, it is no comment. Else it is none where just one literal follows, and then what stands behind a
+    Without blanks before it, it is no comment. Else it is none where just one literal follows, and then what stands after a
     literal: a sign, a number, a relation or the end.
     """
     is_glued = not text[at - 1:at].isspace()
@@ -101,7 +101,7 @@ def _multiplies(text: bytes, at: int, behind: str, is_right: bool) -> bool:
 
 
 def word_at(text: bytes, at: int) -> Word:
-    """The word at a place where one begins, or the nothing behind the last one."""
+    """The word at a place where one begins, or the nothing after the last one."""
     found = _WORD.match(text, at)
     if not found:
         return Word(NOTHING, b"", at, at)

@@ -23,7 +23,7 @@ class Status(IntEnum):
 
 
 class Stop(Exception):
-    """A command cannot go on. The words are for standard error, and may be none where the program has told the cause."""
+    """A command cannot go on. The words are for standard error, and may be none if the program has printed the cause."""
 
     def __init__(self, status: int, words: str = "") -> None:
         super().__init__(words)

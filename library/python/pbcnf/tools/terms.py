@@ -19,7 +19,7 @@ class Edit(NamedTuple):
 
 
 def apply(text: bytes, edits: List[Edit], start: int, end: int) -> bytes:
-    """A part of a text behind its edits, in the order of their places: what is put in stands before what is replaced there, and
+    """A part of a text after its edits, in the order of their places: what is put in stands before what is replaced there, and
     within what is replaced no other edit counts."""
     made: List[bytes] = []
     for edit in sorted(edits, key=lambda edit: (edit.start, edit.end)):
@@ -78,7 +78,7 @@ class Words:
         return self._next
 
     def take(self) -> Word:
-        """The next word, which is behind this place then."""
+        """The next word, which is after this place then."""
         word = self.peek()
         self._next = None
         self.end, self.kind = word.end, word.kind

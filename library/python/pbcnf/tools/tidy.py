@@ -119,7 +119,7 @@ def _keep(rewritten: bytes, target: str) -> None:
 
 
 def advice(opb: str, fault_line: str, text: Optional[bytes] = None) -> Optional[str]:
-    """A second line behind the program's refusal of an OPB text, `pbcnf: OPB 1:13: expected ..`: the file, the word that stands
+    """A second line after the program's refusal of an OPB text, `pbcnf: OPB 1:13: expected ..`: the file, the word that stands
     there, the likeliest cause, and what tidy would make of it; none where the line is none of these.
 
     `opb` is the file's name, and `text` what was read of it, where it cannot be read again.

@@ -32,7 +32,7 @@ def clauses_behind(cnf: Iterable[bytes], lrat: Iterable[bytes]) -> Set[int]:
 
 
 def _hints(line: bytes) -> Iterable[int]:
-    """The ids behind the literals of an LRAT line."""
+    """The ids after the literals of an LRAT line."""
     words = line.split()
     return [abs(int(word)) for word in words[words.index(b"0") + 1:-1]]
 
@@ -76,7 +76,7 @@ def _behind(needed: Set[int], lines: Dict[int, bytes], named: Callable[[bytes], 
 
 
 def statements_behind(statements: Sequence[Statement], loaded: int, needed: Set[int]) -> List[Statement]:
-    """The statements of these loaded constraints: the halves of the statements stand behind the constraints of products."""
+    """The statements of these loaded constraints: the halves of the statements stand after the constraints of products."""
     first = loaded - sum(statement.halves for statement in statements) + 1
     found: List[Statement] = []
     for statement in statements:

@@ -39,7 +39,7 @@ def main(words: Optional[List[str]] = None) -> int:
     except Refusal as refusal:
         status, told = refusal.status, str(refusal)
     except OSError as error:
-        # Reading and standard output are refused by themselves. That a full disk hinders closing is told here too.
+        # Reading and standard output are refused by themselves. That a full disk hinders closing is reported here too.
         status, told = NO_TEMPORARY_FILE, f"the temporary file could not be made or written: {error.strerror}"
     except MemoryError:
         status, told = OUT_OF_MEMORY, "out of memory"

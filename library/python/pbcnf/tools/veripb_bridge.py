@@ -140,7 +140,7 @@ class _Refutation:
         self._last = len(clauses)
 
     def add(self, line: Line, step: Added, prints: bool) -> int:
-        """The id of an added clause; 0 where it is read only, behind the empty clause."""
+        """The id of an added clause; 0 where it is read only, after the empty clause."""
         if step.id <= self._last:
             raise line.denied(NOT_A_REFUTATION, f"old id {step.id}")
         unknown = [id for id in step.hints if id not in self._printed]

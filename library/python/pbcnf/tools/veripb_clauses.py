@@ -87,7 +87,7 @@ def read_lrat(text: str, variables: int) -> Iterator[Tuple[Line, Union[Added, De
 
 
 def _literals(line: Line, variables: int) -> Tuple[List[int], int]:
-    """The literals from the second word on, and the place behind their 0."""
+    """The literals from the second word on, and the place after their 0."""
     clause: List[int] = []
     for place in range(1, len(line.words) + 1):
         signed: Optional[int] = integer(line.words[place]) if place < len(line.words) else None
@@ -100,7 +100,7 @@ def _literals(line: Line, variables: int) -> Tuple[List[int], int]:
 
 
 def _numbers(line: Line, start: int) -> Tuple[List[int], int]:
-    """The ids from this place on, and the place behind their 0. A negative one, of a step that is not by unit propagation, is none."""
+    """The ids from this place on, and the place after their 0. A negative one, of a step that is not by unit propagation, is none."""
     ids: List[int] = []
     for place in range(start, len(line.words) + 1):
         number = natural(line.words[place]) if place < len(line.words) else None

@@ -129,7 +129,7 @@ def _operations(line: Line) -> List[Operation]:
 
 
 def _operation(line: Line, place: int) -> Tuple[Operation, int]:
-    """The operation that begins at this word, and the place behind it."""
+    """The operation that begins at this word, and the place after it."""
     word = line.words[place]
     behind = line.words[place + 1] if place + 1 < len(line.words) else ""
     number, signed = natural(word), literal(word)
@@ -147,7 +147,7 @@ def _operation(line: Line, place: int) -> Tuple[Operation, int]:
 
 
 def _constraint(line: Line) -> Tuple[List[Tuple[int, int]], int, int]:
-    """The terms and the right side that begin at the second word, and the place behind their semicolon."""
+    """The terms and the right side that begin at the second word, and the place after their semicolon."""
     terms: List[Tuple[int, int]] = []
     place = 1
     while line.words[place:place + 1] != [">="]:

@@ -39,7 +39,7 @@ class Problem:
     numbered: int
     """So many variables are named by their numbers."""
     free: List[str]
-    """The other names, whose variables come behind those, in the order of the text."""
+    """The other names, whose variables come after those, in the order of the text."""
     loaded: int
     """How many constraints are loaded: an equality is two, the lower bound first, for VeriPB as for the program."""
     has_objective: bool
@@ -142,7 +142,7 @@ def _name_in(word: str) -> str:
 
 
 def _variables_told(line: str) -> int:
-    """The number of variables in the first line, if that tells it."""
+    """The number of variables in the first line, if that declares it."""
     words = line.split()
     told = len(words) > 2 and words[:2] == ["*", "#variable="]
     return natural(words[2]) or 0 if told else 0

@@ -39,7 +39,7 @@ class Line:
     words: List[str]
 
     def fault(self, word: int, what: str) -> Refusal:
-        """The word of this index, from 0, is not what the grammar asks for; behind the last one the line ends too early."""
+        """The word of this index, from 0, is not what the grammar asks for; after the last one the line ends too early."""
         starts = [found.start() for found in _WORD.finditer(self.text)]
         column = starts[word] if word < len(starts) else len(self.text)
         return expected(self.file, self.number, column + 1, what)
@@ -58,7 +58,7 @@ def lines_of(file: str, text: str, comment: str) -> Iterator[Line]:
 
 
 def last_line(text: str) -> int:
-    """The number of the line behind the last one, where a text that ends too early is told."""
+    """The number of the line after the last one, where a text that ends too early is reported."""
     return text.count("\n") + (0 if text.endswith("\n") or not text else 1) + 1
 
 

@@ -19,7 +19,7 @@ _ROOM = 16384
 
 
 class Workspace:
-    """A folder of its own below TMPDIR, from `with` on, named so that one which a killed process has left can be told."""
+    """A folder of its own below TMPDIR, from `with` on, named so that one which a killed process has left can be recognized."""
 
     def __init__(self) -> None:
         self.folder = ""

@@ -25,7 +25,7 @@ impl Solver {
         Solver(unsafe { ccadical_init() })
     }
 
-    /// Adds clauses as integers, each with the 0 behind it.
+    /// Adds clauses as integers, each with the 0 after it.
     pub fn add(&mut self, integers: &[i32]) {
         for &integer in integers {
             // SAFETY: the solver is ours until it is dropped, here and below.
