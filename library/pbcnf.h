@@ -10,7 +10,7 @@
  * what was put stays as it was; at every other status the whole room does. At every status but PBCNF_DONE and PBCNF_NO_ROOM
  * the sizes and lengths are 0.
  *
- * The caller owes:
+ * Required of the caller:
  *  - a pointer and its count are those of one array, whole, which no other code writes during the call, nor reads where it is
  *    written. It is aligned for its type. It may be null, or any other, if its count is 0; then nobody looks at it. (That holds
  *    of this header, by the fronts at its end. Who calls the exports by their names from elsewhere passes an address always.)
@@ -33,16 +33,22 @@ extern "C" {
 /* Which structs, numbers and meanings the calls below have. A library of others answers another number by pbcnf_abi. */
 #define PBCNF_ABI 1
 
-/* The version of the library that is there: a byte for each of its three numbers, 0x000300 for 0.3.0. */
+/* The version of the library that is there: a byte for each of its three numbers, 0x000300 for 0.3.0.
+ *
+ *      assert(pbcnf_version() >= 0x000300);
+ */
 uint32_t pbcnf_version(void);
 
-/* PBCNF_ABI of the library that is there. A program that did not come with it asks this before any other call. */
+/* PBCNF_ABI of the library that is there. A program that did not come with it asks this before any other call.
+ *
+ *      assert(pbcnf_abi() == PBCNF_ABI);
+ */
 uint32_t pbcnf_abi(void);
 
 /* ---- statuses: those of the program. PBCNF_UNREAD is not returned. */
 enum {
   PBCNF_DONE = 0,
-  PBCNF_REFUSED = 1,      /* a text leaves its grammar: file, line, column, expected; or, without a line, lacks an objective */
+  PBCNF_REFUSED = 1,      /* a text does not follow its grammar: file, line, column, expected; or, without a line, lacks an objective */
   PBCNF_USAGE = 2,        /* the numbers passed choose nothing; reported before any fault of a text */
   PBCNF_LIMIT = 3,        /* a text, or what is to be made of it, passes a limit: limit, and file, line, column where one is to blame */
   PBCNF_UNREAD = 4,
@@ -60,8 +66,8 @@ typedef struct {
   uint32_t card;    /* at most so many literals: 0 by bound, 1 counter, 2 totalizer */
   uint32_t general; /* weighted sums: 0 diagram, 1 tree, 2 adder */
   uint32_t equal;   /* equalities: 0 split, half by half; 1 joint, as one where a number of the literals is asked for */
-  uint32_t table;   /* 1: a table of bounds on the objective stands after all constraints, as `--table` puts it; 0: none */
-  uint32_t budget;  /* 1 to 10,000,000: the most fresh variables of one constraint, past which it goes to adders; and of the table */
+  uint32_t table;   /* 1: a table of bounds on the objective follows all constraints, as with `--table`; 0: none */
+  uint32_t budget;  /* 1 to 10,000,000: the most fresh variables of one constraint, past which it is sent to adders; and of the table */
 } pbcnf_options;
 #define PBCNF_OPTIONS_DEFAULT {0, 0, 0, 0, 0, 50000}
 
@@ -192,50 +198,112 @@ enum {
   PBCNF_UNPROVED_NO_EMPTY_CLAUSE = 4 /* no empty clause */
 };
 
-/* ---- a whole problem, as an OPB text */
+/* ---- a whole problem, as an OPB text
+ *
+ * The lines that are set in are examples: one after another, they are the body of a program (with assert.h and string.h). Where it adds
+ * up integers, `add` is a function that adds an integer to the int64_t at an address; a solver's is called in its place.
+ *
+ *      const uint8_t opb[] = "min: +3 x1 +2 x2 ;\n+1 x1 +1 x2 >= 1 ;\n";
+ *      const size_t opb_len = sizeof opb - 1;
+ *      const pbcnf_options options = PBCNF_OPTIONS_DEFAULT;
+ *      const pbcnf_bound bound = PBCNF_NO_BOUND;
+ *      pbcnf_refusal refusal;
+ *      pbcnf_size size;
+ *      uint64_t length;
+ */
 
-/* The CNF text of a problem, the bytes that `pbcnf encode` writes. Statuses 0, 1, 2, 3, 5, 6. */
+/* The CNF text of a problem, the bytes that `pbcnf encode` writes. Statuses 0, 1, 2, 3, 5, 6.
+ *
+ *      uint8_t cnf[100];
+ *      assert(pbcnf_encode(opb, opb_len, &options, &bound, cnf, sizeof cnf, &size, &refusal) == PBCNF_DONE);
+ *      assert(size.vars == 2 && size.length == 16 && memcmp(cnf, "p cnf 2 1\n1 2 0\n", 16) == 0);
+ */
 uint8_t pbcnf_encode(const uint8_t *opb, size_t opb_len, const pbcnf_options *options, const pbcnf_bound *bound,
                      uint8_t *cnf, size_t room, pbcnf_size *size, pbcnf_refusal *refusal);
 
 /* The same clauses as integers, as IPASIR takes them: the literals of each (a variable's number, negative where negated) and 0.
- * room and size->length count integers. Statuses 0, 1, 2, 3, 5, 6. */
+ * room and size->length count integers. Statuses 0, 1, 2, 3, 5, 6.
+ *
+ *      int32_t integers[100];
+ *      assert(pbcnf_clauses(opb, opb_len, &options, &bound, NULL, 0, &size, &refusal) == PBCNF_NO_ROOM && size.length == 3);
+ *      assert(pbcnf_clauses(opb, opb_len, &options, &bound, integers, 100, &size, &refusal) == PBCNF_DONE);
+ *      assert(integers[0] == 1 && integers[1] == 2 && integers[2] == 0);
+ */
 uint8_t pbcnf_clauses(const uint8_t *opb, size_t opb_len, const pbcnf_options *options, const pbcnf_bound *bound,
                       int32_t *integers, size_t room, pbcnf_size *size, pbcnf_refusal *refusal);
 
-/* The derivation of these clauses, the bytes that `pbcnf encode` writes into its third file. Statuses 0, 1, 2, 3, 5, 6. */
+/* The derivation of these clauses, the bytes that `pbcnf encode` writes into its third file. Statuses 0, 1, 2, 3, 5, 6.
+ *
+ *      uint8_t proof[1000];
+ *      assert(pbcnf_derive(opb, opb_len, &options, &bound, proof, sizeof proof, &size, &refusal) == PBCNF_DONE);
+ *      const uint64_t proof_len = size.length;
+ */
 uint8_t pbcnf_derive(const uint8_t *opb, size_t opb_len, const pbcnf_options *options, const pbcnf_bound *bound,
                      uint8_t *proof, size_t room, pbcnf_size *size, pbcnf_refusal *refusal);
 
-/* The rows of the table of bounds that stands after these clauses where options->table is 1, one for each line `bound W L` of
+/* The rows of the table of bounds that follows these clauses if options->table is 1, one for each line `bound W L` of
  * `pbcnf encode --table`, the values ascending. Assume a row's literal false, and the models are just the solutions whose objective
  * is less than its value. Without a table, or an objective that has costs, there are none. room and size->length count rows.
- * Statuses 0, 1, 2, 3, 5, 6. */
+ * Statuses 0, 1, 2, 3, 5, 6.
+ *
+ *      pbcnf_options tabled = options;
+ *      pbcnf_row rows[10];
+ *      tabled.table = 1;
+ *      assert(pbcnf_bounds(opb, opb_len, &tabled, &bound, rows, 10, &size, &refusal) == PBCNF_DONE);
+ *      assert(size.length == 3 && rows[0].low == 2 && rows[1].low == 3 && rows[2].low == 5);
+ */
 uint8_t pbcnf_bounds(const uint8_t *opb, size_t opb_len, const pbcnf_options *options, const pbcnf_bound *bound,
                      pbcnf_row *rows, size_t room, pbcnf_size *size, pbcnf_refusal *refusal);
 
 /* The weighted CNF text of a problem and its objective, the bytes that `pbcnf wcnf` writes. The size counts hard clauses.
- * Statuses 0, 1, 2, 3, 5, 6. */
+ * Statuses 0, 1, 2, 3, 5, 6.
+ *
+ *      uint8_t wcnf[100];
+ *      assert(pbcnf_wcnf(opb, opb_len, &options, &bound, wcnf, sizeof wcnf, &size, &refusal) == PBCNF_DONE);
+ *      assert(size.length == 33 && memcmp(wcnf, "c offset 0\nh 1 2 0\n3 -1 0\n2 -2 0\n", 33) == 0);
+ */
 uint8_t pbcnf_wcnf(const uint8_t *opb, size_t opb_len, const pbcnf_options *options, const pbcnf_bound *bound,
                    uint8_t *wcnf, size_t room, pbcnf_size *size, pbcnf_refusal *refusal);
 
 /* What `pbcnf decode` says of a solver's text (its `s` and `v` lines): the values of all variables by their names, once they
- * are tested against each statement, and the bound. *length: its bytes. Statuses 0, 1, 3, 5, 6, 8, 9. */
+ * are tested against each statement, and the bound. *length: its bytes. Statuses 0, 1, 3, 5, 6, 8, 9.
+ *
+ *      const uint8_t model[] = "s SATISFIABLE\nv -1 2 0\n";
+ *      uint8_t said[100];
+ *      assert(pbcnf_decode(opb, opb_len, &bound, model, sizeof model - 1, said, sizeof said, &length, &refusal) == PBCNF_DONE);
+ *      assert(length == 27 && memcmp(said, "o 2\ns SATISFIABLE\nv -x1 x2\n", 27) == 0);
+ */
 uint8_t pbcnf_decode(const uint8_t *opb, size_t opb_len, const pbcnf_bound *bound, const uint8_t *model, size_t model_len,
                      uint8_t *said, size_t room, uint64_t *length, pbcnf_refusal *refusal);
 
-/* What `pbcnf map` says: which variables have free names, and which. *length: its bytes. Statuses 0, 1, 3, 5, 6. */
+/* What `pbcnf map` says: which variables have free names, and which. *length: its bytes. Statuses 0, 1, 3, 5, 6.
+ *
+ *      const uint8_t named[] = "+1 rain +1 sun >= 1 ;";
+ *      assert(pbcnf_map(named, sizeof named - 1, said, sizeof said, &length, &refusal) == PBCNF_DONE);
+ *      assert(length == 13 && memcmp(said, "1 rain\n2 sun\n", 13) == 0);
+ */
 uint8_t pbcnf_map(const uint8_t *opb, size_t opb_len, uint8_t *said, size_t room, uint64_t *length, pbcnf_refusal *refusal);
 
 /* ---- what `pbcnf check` and `pbcnf refute` judge. The texts are copied for the call. */
 
 /* PBCNF_DONE: the derivation shows that each solution of the problem, under the bound, is the front of a model of the CNF.
- * Statuses 0, 1, 3, 6, 7. */
+ * Statuses 0, 1, 3, 6, 7.
+ *
+ *      assert(pbcnf_check(opb, opb_len, &bound, cnf, 16, proof, proof_len, &refusal) == PBCNF_DONE);
+ *      assert(pbcnf_check(opb, opb_len, &bound, cnf, 16, opb, opb_len, &refusal) == PBCNF_REFUSED);
+ *      assert(refusal.file == PBCNF_FILE_PROOF && refusal.line == 1 && refusal.column == 1);
+ */
 uint8_t pbcnf_check(const uint8_t *opb, size_t opb_len, const pbcnf_bound *bound, const uint8_t *cnf, size_t cnf_len,
                     const uint8_t *proof, size_t proof_len, pbcnf_refusal *refusal);
 
 /* PBCNF_DONE: so it does, and the refutation, in the LRAT format, is one of the CNF: the problem has no solution under the bound.
- * Statuses 0, 1, 3, 6, 7, 10. */
+ * Statuses 0, 1, 3, 6, 7, 10.
+ *
+ *      const uint8_t no[] = "+1 x1 >= 1 ;\n+1 ~x1 >= 1 ;\n", no_cnf[] = "p cnf 1 2\n1 0\n-1 0\n", lrat[] = "3 0 1 2 0\n";
+ *      const uint8_t no_proof[] = "pseudo-Boolean derivation profile 1\nf 2\nout 1\nout 2\nend\n";
+ *      assert(pbcnf_refute(no, sizeof no - 1, &bound, no_cnf, sizeof no_cnf - 1, no_proof, sizeof no_proof - 1, lrat, sizeof lrat - 1,
+ *                          &refusal) == PBCNF_DONE);
+ */
 uint8_t pbcnf_refute(const uint8_t *opb, size_t opb_len, const pbcnf_bound *bound, const uint8_t *cnf, size_t cnf_len,
                      const uint8_t *proof, size_t proof_len, const uint8_t *lrat, size_t lrat_len, pbcnf_refusal *refusal);
 
@@ -243,7 +311,7 @@ uint8_t pbcnf_refute(const uint8_t *opb, size_t opb_len, const pbcnf_bound *boun
 
 enum { PBCNF_AT_LEAST = 0, PBCNF_AT_MOST = 1, PBCNF_EQUAL = 2 };
 
-/* What stands beside the sum. */
+/* The relation and the right side of a sum. */
 typedef struct {
   uint32_t relation;   /* PBCNF_AT_LEAST, PBCNF_AT_MOST, PBCNF_EQUAL */
   uint32_t first;      /* 1 to 2^31: the first fresh variable. All variables of the sum are below it */
@@ -251,26 +319,37 @@ typedef struct {
   uint64_t right_high;
 } pbcnf_side;
 
-/* The clauses of one constraint as integers, as pbcnf_clauses hands them out.
- * literals: a variable's number, negative where negated; a variable may stand more than once.
+/* The clauses of one constraint as integers, as pbcnf_clauses puts them.
+ * literals: a variable's number, negative where negated; a variable may occur more than once.
  * coefficients: one for each literal, in two's complement: either `count` words of 64 bits each (an int64_t array, cast), or
  * twice as many, of 128 bits each, the low word first (an array of __int128 on a little-endian machine, cast).
  * size->original is first - 1, size->vars is the last variable that is taken: vars - original fresh ones, which are the numbers
  * from first to vars. The next constraint's first is vars + 1.
  * PBCNF_USAGE: a bad option, relation or first, another count of coefficients, a literal of 0 or whose variable is first or above.
- * PBCNF_LIMIT: _TERMS, _WEIGHT (with the right side), _VARIABLES, _CLAUSES. Statuses 0, 2, 3, 5, 6. */
+ * PBCNF_LIMIT: _TERMS, _WEIGHT (with the right side), _VARIABLES, _CLAUSES. Statuses 0, 2, 3, 5, 6.
+ *
+ *      const uint64_t ones[] = {1, 1, 1, 1};
+ *      const int32_t literals[] = {1, 2, 3, -1};
+ *      pbcnf_side side = pbcnf_side_of(PBCNF_AT_MOST, 1, 4);
+ *      assert(pbcnf_constraint(ones, 3, literals, 3, &side, &options, integers, 100, &size, &refusal) == PBCNF_DONE);
+ *      assert(size.vars == 3 && size.length == 9 && integers[0] == -1 && integers[1] == -2 && integers[2] == 0);
+ */
 uint8_t pbcnf_constraint(const uint64_t *coefficients, size_t coefficient_words, const int32_t *literals, size_t count,
                          const pbcnf_side *side, const pbcnf_options *options, int32_t *integers, size_t room,
                          pbcnf_size *size, pbcnf_refusal *refusal);
 
-/* The derivation of these clauses, as a text beside the problem of this one constraint. size->length: its bytes. */
+/* The derivation of these clauses, as a text for the problem of this one constraint. size->length: its bytes.
+ *
+ *      assert(pbcnf_constraint_derive(ones, 3, literals, 3, &side, &options, proof, sizeof proof, &size, &refusal) == PBCNF_DONE);
+ *      assert(size.clauses == 3 && size.length < sizeof proof && memcmp(proof + size.length - 4, "end\n", 4) == 0);
+ */
 uint8_t pbcnf_constraint_derive(const uint64_t *coefficients, size_t coefficient_words, const int32_t *literals, size_t count,
                                 const pbcnf_side *side, const pbcnf_options *options, uint8_t *proof, size_t room,
                                 pbcnf_size *size, pbcnf_refusal *refusal);
 
 /* ---- many constraints in one call: their terms in columns, those of each constraint after those of the one before */
 
-/* What stands beside a sum, whose terms are the next ones. */
+/* The relation and the right side of a sum, whose terms are the next ones. */
 typedef struct {
   uint32_t relation;   /* PBCNF_AT_LEAST, PBCNF_AT_MOST, PBCNF_EQUAL */
   uint32_t unused;     /* 0 */
@@ -283,12 +362,21 @@ typedef struct {
  * first on: what pbcnf_constraint puts, constraint after constraint, each with the first variable that is still free. coefficients,
  * literals and first are as there, `count` are all literals, and the sums report how many are each one's.
  * At PBCNF_USAGE and PBCNF_LIMIT refusal->number is the constraint to blame, from 1, and 0 where no single one is: a bad option or
- * first, counts that do not fit, more than 2^24 constraints, more variables or clauses than may be. Statuses 0, 2, 3, 5, 6. */
+ * first, counts that do not fit, more than 2^24 constraints, more variables or clauses than may be. Statuses 0, 2, 3, 5, 6.
+ *
+ *      const pbcnf_sum sums[] = {pbcnf_sum_of(PBCNF_AT_LEAST, 1, 2), pbcnf_sum_of(PBCNF_AT_MOST, 1, 2)};
+ *      assert(pbcnf_constraints(ones, 4, literals, 4, sums, 2, 4, &options, integers, 100, &size, &refusal) == PBCNF_DONE);
+ *      assert(size.length == 6 && integers[0] == 1 && integers[1] == 2 && integers[3] == 1 && integers[4] == -3);
+ */
 uint8_t pbcnf_constraints(const uint64_t *coefficients, size_t coefficient_words, const int32_t *literals, size_t count,
                           const pbcnf_sum *sums, size_t constraints, uint32_t first, const pbcnf_options *options,
                           int32_t *integers, size_t room, pbcnf_size *size, pbcnf_refusal *refusal);
 
-/* The derivation of these clauses, as a text beside the problem of these constraints alone. size->length: its bytes. */
+/* The derivation of these clauses, as a text for the problem of these constraints alone. size->length: its bytes.
+ *
+ *      assert(pbcnf_constraints_derive(ones, 4, literals, 4, sums, 2, 4, &options, proof, 1000, &size, &refusal) == PBCNF_DONE);
+ *      assert(size.clauses == 2 && size.length < sizeof proof);
+ */
 uint8_t pbcnf_constraints_derive(const uint64_t *coefficients, size_t coefficient_words, const int32_t *literals, size_t count,
                                  const pbcnf_sum *sums, size_t constraints, uint32_t first, const pbcnf_options *options,
                                  uint8_t *proof, size_t room, pbcnf_size *size, pbcnf_refusal *refusal);
@@ -296,15 +384,32 @@ uint8_t pbcnf_constraints_derive(const uint64_t *coefficients, size_t coefficien
 /* ---- the words of a refusal, as the program prints them on standard error ("pbcnf: OPB 3:7: expected a literal"), without the
  * line's end; none at PBCNF_DONE. A call has words of its own for PBCNF_USAGE, for PBCNF_NO_ROOM, and where a constraint is to blame
  * ("pbcnf: constraint 3: limit terms"). *length: its bytes (160 are enough). Numbers that no call fills in: PBCNF_USAGE, and
- * *length is 0. Statuses 0, 2, 5, 6. */
+ * *length is 0. Statuses 0, 2, 5, 6.
+ *
+ *      side.first = 3;
+ *      assert(pbcnf_constraint(ones, 3, literals, 3, &side, &options, integers, 100, &size, &refusal) == PBCNF_USAGE);
+ *      assert(pbcnf_encode((const uint8_t *)"+1 x1 >= ;", 10, &options, &bound, cnf, sizeof cnf, &size, &refusal) == PBCNF_REFUSED);
+ *      assert(pbcnf_words(&refusal, said, sizeof said, &length) == PBCNF_DONE);
+ *      assert(length == 36 && memcmp(said, "pbcnf: OPB 1:10: expected an integer", 36) == 0);
+ */
 uint8_t pbcnf_words(const pbcnf_refusal *refusal, uint8_t *said, size_t room, uint64_t *length);
 
-/* In C alone, over what pbcnf_clauses or pbcnf_constraint put: hands each integer to a solver's add (IPASIR's ipasir_add). */
+/* In C alone, over what pbcnf_clauses or pbcnf_constraint put: passes each integer to a solver's add (IPASIR's ipasir_add).
+ *
+ *      int64_t sum = 0;
+ *      pbcnf_add_all(integers, 6, &sum, add);
+ *      assert(sum == 1 + 2 + 0 + 1 - 3 + 0);
+ */
 static inline void pbcnf_add_all(const int32_t *integers, uint64_t length, void *solver, void (*add)(void *, int32_t)) {
   for (uint64_t i = 0; i < length; i++) add(solver, integers[i]);
 }
 
-/* In C alone, of numbers of 64 bits: a bound, and what stands beside a sum, of one constraint and of one of many. */
+/* In C alone, of numbers of 64 bits: a bound, and relation and right side of a sum, of one constraint and of one of many.
+ *
+ *      const pbcnf_bound most = pbcnf_bound_of(1);
+ *      assert(pbcnf_decode(opb, opb_len, &most, model, sizeof model - 1, said, 100, &length, &refusal) == PBCNF_NO_SOLUTION);
+ *      assert(refusal.number == 2 && length == 0);
+ */
 static inline pbcnf_bound pbcnf_bound_of(int64_t most) {
   const pbcnf_bound bound = {1, (uint64_t)most, most < 0 ? UINT64_MAX : 0};
   return bound;
@@ -318,9 +423,10 @@ static inline pbcnf_sum pbcnf_sum_of(uint32_t relation, int64_t right, uint64_t 
   return sum;
 }
 
-/* ---- fronts. An empty vector has no address, and a slice of the library always has one: so each call is made by a function that
- * stands before it under its name, and that puts an address in the place of a pointer whose count is 0. They also say to the compiler what
- * the caller owes. With PBCNF_EXPORTS defined before this header is included there are none, and the calls are the exports alone. */
+/* ---- fronts. An empty vector has no address, and a slice of the library always has one: so each call is made by a function
+ * of its name in front of it, which passes an address in the place of a pointer whose count is 0. They also say to the
+ * compiler what is required of the caller. With PBCNF_EXPORTS defined before this header is included there are none, and the calls
+ * are the exports alone. */
 #ifndef PBCNF_EXPORTS
 
 /* That the status is to be looked at; at which places, from 1, no pointer is null; and that what is written overlaps nothing else. */

@@ -62,6 +62,21 @@ try_header() {
     fi
 }
 
+# The examples in the header's comments are a program, which is well and makes each call.
+try_examples() {
+    {
+        printf '#include <%s>\n' assert.h string.h
+        printf '%s\n' '#include "pbcnf.h"' 'static void add(void *sum, int32_t integer) { *(int64_t *)sum += integer; }' 'int main(void) {'
+        sed -n 's/^ \*      //p' "$library/pbcnf.h"
+        printf '%s\n' 'return 0;' '}'
+    } >shown.c
+    expect 0 "$compiler" -std=c11 -Wall -Wextra -Wpedantic -Werror -I "$library" shown.c "$linked/libpbcnf.a" -o shown
+    expect 0 ./shown
+    declared >declared
+    grep -o 'pbcnf_[a-z_]*(' shown.c | tr -d '(' | sort -u | comm -13 - declared >unused
+    holds unused
+}
+
 # careless BODY STATUS [WARNING]: how the compiler ends over a call that is made so, and of what it warns.
 careless() {
     text careless.c '#include "pbcnf.h"' 'uint8_t call(const uint8_t *, const pbcnf_options *, const pbcnf_bound *, uint8_t *, pbcnf_size *, pbcnf_refusal *);' \
@@ -203,6 +218,7 @@ try_bytes() {
 
 if [ -n "$compiler" ]; then
     try_header
+    try_examples
     try_warnings
     try_signatures
     try_interface
