@@ -40,7 +40,7 @@ skip() {
     printf 'skipped %s: %s\n' "$subject" "$*" >>"$state/report"
 }
 
-# Whether there is this tool.
+# True if there is this tool.
 has() {
     command -v "$1" >/dev/null
 }
@@ -82,7 +82,7 @@ wait_until() {
     return 1
 }
 
-# Whether no process of this number runs. One that has ended, and that nobody has asked about, does not.
+# True if no process of this number runs. One that has ended, and that nobody has asked about, does not.
 has_ended() {
     ! kill -0 "$1" 2>"$state/kill" || grep -q '^State:.*Z' "/proc/$1/status" 2>"$state/kill"
 }

@@ -27,7 +27,7 @@ front() {
     fi
 }
 
-# Whether the last run has said and made all that is due.
+# True if the last run has said and made all that is due.
 is_whole() {
     local one
     cmp -s due.said "$said" || return

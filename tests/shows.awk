@@ -1,4 +1,4 @@
-# Whether the output shows the lines that a page prints: all of them, one after the other. A line `...` stands for any lines.
+# True if the output shows the lines that a page prints: all of them, one after the other. A line `...` stands for any lines.
 #
 # usage: awk -f shows.awk PRINTED OUTPUT
 #

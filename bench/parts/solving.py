@@ -18,7 +18,7 @@ ANSWERS = {10: "yes", 20: "no"}
 
 
 class Question:
-    """Whether a problem has a solution, with its objective at most a bound if there is one, by each form of its clauses."""
+    """True if a problem has a solution, with its objective at most a bound if there is one, by each form of its clauses."""
 
     def __init__(self, bench, name, bound, answer):
         self.name, self.bound, self.answer = name, bound, answer

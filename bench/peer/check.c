@@ -235,7 +235,7 @@ static void substitute(const Term *terms, uint32_t count, int64_t degree) {
   }
 }
 
-/* Whether the claim's negation implies the goal: what it weighs beyond the goal's weights does not matter for the goal's degree. */
+/* True if the claim's negation implies the goal: what it weighs beyond the goal's weights does not matter for the goal's degree. */
 static int is_met(void) {
   int64_t degree = 1 - claim.degree, lost = 0;
   uint32_t place = 0;

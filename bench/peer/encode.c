@@ -40,7 +40,7 @@ static void put_clause(const Constraint *constraint) {
   end_clause();
 }
 
-/* Whether any one literal suffices, and none is forced. */
+/* True if any one literal suffices, and none is forced. */
 static int is_clause(const Constraint *constraint, int64_t slack) {
   for (uint32_t i = 0; i < constraint->count; i++)
     if (constraint->terms[i].weight < constraint->degree || constraint->terms[i].weight > slack) return 0;
@@ -93,7 +93,7 @@ static void put_at_most_one(uint32_t count) {
     product(literals, count);
 }
 
-/* Whether the family of a cardinality constraint has its fresh variables within the budget, and makes its clauses. */
+/* True if the family of a cardinality constraint has its fresh variables within the budget, and makes its clauses. */
 static int put_cardinality(uint32_t count, uint32_t bound) {
   if (is_word(options.card, "auto") ? bound <= 8 : is_word(options.card, "counter")) {
     if (counter_fresh(count, bound) > options.budget) return 0;
@@ -157,7 +157,7 @@ static void put_half(Constraint *constraint) {
     put_general(constraint);
 }
 
-/* Whether the two halves of an equality, of which this is the lower one, are encoded as one; makes their clauses then. */
+/* True if the two halves of an equality, of which this is the lower one, are encoded as one; makes their clauses then. */
 static int put_joint(Constraint *constraint) {
   const int64_t weight = common_weight(constraint);
   if (constraint->count < 3 || !weight || constraint->degree % weight) return 0;

@@ -27,7 +27,7 @@ Problem read_problem(const char *name);
 /* Makes the lower half of a statement, or the upper one, whose terms begin at a place of the columns, in normal form. */
 void take_half(Constraint *half, const Problem *problem, const Statement *statement, size_t begin, int is_upper);
 
-/* Whether a statement has this half. */
+/* True if a statement has this half. */
 static inline int has_half(const Statement *statement, int is_upper) {
   return statement->relation != (is_upper ? '>' : '<');
 }

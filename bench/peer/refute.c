@@ -112,7 +112,7 @@ static int propagate(uint64_t id) {
   return !unit;
 }
 
-/* Whether the hints lead to a conflict, or none is needed. */
+/* True if the hints lead to a conflict, or none is needed. */
 static int is_allowed(Text *text, int is_tautology) {
   Text rest = *text;
   int reached = is_tautology;

@@ -88,7 +88,7 @@ class Stamps:
         self.known.pop(crate.name, None)
 
     def is_changed(self, crate):
-        """Whether the crate, or one below it, is another than when its stamp was made."""
+        """True if the crate, or one below it, is another than when its stamp was made."""
         return Stamps(self.kit).of(crate) != self.of(crate)
 
 
@@ -108,7 +108,7 @@ class Workshop:
         return "%s/out/rlib/stamp" % crate.folder if crate.makes_rlib() else self.made(crate) + ".stamp"
 
     def stamp(self, crate):
-        """What stands in the stamp, for a program with the sum of its bytes."""
+        """What is in the stamp, for a program with the sum of its bytes."""
         return self.stamps.of(crate) + ("" if crate.makes_rlib() else self.kit.sum_of(self.made(crate)))
 
     def is_done(self, crate):

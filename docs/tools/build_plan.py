@@ -1,6 +1,6 @@
 """In which order crates are built side by side, and how long that takes.
 
-The seconds and the memory of each crate, by one job, stand in crate_seconds.json beside this file; ./build --measure writes it. What
+The seconds and the memory of each crate, by one job, are in crate_seconds.json beside this file; ./build --measure writes it. What
 it lacks is guessed by the size of the crate.
 
 By more jobs a crate is done sooner: a part of its seconds stays, and the rest goes faster, as measured on pb_base (172 s by one job,

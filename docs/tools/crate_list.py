@@ -17,7 +17,7 @@ def uses_of(top=TOP):
 
 
 def below(name, uses):
-    """The crate and all that it stands on."""
+    """The crate and all below it."""
     found, waiting = set(), [name]
     while waiting:
         one = waiting.pop()

@@ -1,6 +1,6 @@
 """What the steps of tests/quick cost, in seconds of a processor by one job.
 
-What was measured stands in quick_seconds.json beside this file; `tests/quick --measure` writes it. What it lacks is guessed.
+What was measured is in quick_seconds.json beside this file; `tests/quick --measure` writes it. What it lacks is guessed.
 """
 
 import json

@@ -2,7 +2,7 @@
 """Finds the cheapest guards for a street of corners by one solver in this process.
 
 After each solution the solver gets one constraint more, that the next is cheaper. Nothing is kept between the calls but the
-first variable that is still free. It stands on the module pbcnf and on Debian's python3-cryptominisat.
+first variable that is still free. It uses the module pbcnf and on Debian's python3-cryptominisat.
 """
 
 import pbcnf
@@ -24,7 +24,7 @@ class Solver:
         self.first = encoding.next_free
 
     def model(self):
-        """Whether each variable is true, from 1 on, or None where there is no model."""
+        """The value of each variable, from 1 on, or None if there is no model."""
         found, values = self.solver.solve()
         return values[1:] if found else None
 

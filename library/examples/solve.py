@@ -3,7 +3,7 @@
 
 usage: solve.py OPB [--general tree]
 
-It stands on the module pbcnf and on Debian's python3-cryptominisat. Exit status: that of pbcnf in the same case, or 20 where there is
+It uses the module pbcnf and on Debian's python3-cryptominisat. Exit status: that of pbcnf in the same case, or 20 where there is
 no solution.
 """
 

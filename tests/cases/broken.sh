@@ -41,7 +41,7 @@ breaks() {
         printf '%s\0%s' "${whole:0:i}" "${whole:i+1}" >text
         holds_up "${@:2}" || bad="${whole:0:i}, a byte 0, ${whole:i+1}"
     done
-    # Of each text some parts cannot stand alone.
+    # Of each text some parts are no text by themselves.
     [ $refused -gt 0 ] || bad=$whole
     if [ -z "$bad" ]; then passed; else failed "$last: no answer that is due of the text $(shown "$bad")"; fi
 }

@@ -1,4 +1,4 @@
-# The commands that the documents print, run as they stand there, with the output that is printed after them.
+# The commands that the documents print, run as they are there, with the output that is printed after them.
 . "$top/tests/lib.sh"
 
 solvers='cadical kissat cryptominisat5 clasp picosat glucose minisat'

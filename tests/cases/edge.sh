@@ -1,5 +1,5 @@
 # No proof covers what the program's lines at the system's edge do. For each deed that they could do wrong, by the tables of
-# CONTRIBUTING.md, the case that stands beside it fails; and over a system that is hard to please it passes.
+# CONTRIBUTING.md, the case beside it fails; and over a system that is hard to please it passes.
 . "$top/tests/lib.sh"
 
 own=$top/tests/edge

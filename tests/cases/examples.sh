@@ -127,7 +127,7 @@ mkdir made
 expect 0 "$top/tests/data/make" made
 for name in garden covering upgrade; do same "$top/tests/data/$name.opb" made/$name.opb; done
 
-# No solution, also by an empty clause or by units that stand before others; and no objective.
+# No solution, also by an empty clause or by units that come before others; and no objective.
 text empty.opb '+1 x1 +1 x2 >= 3 ;' '+1 x1 >= 1 ;' '+1 x2 +1 x3 >= 1 ;'
 text units.opb '+1 x1 >= 1 ;' '+1 ~x1 >= 1 ;' '+1 x2 +1 x3 >= 1 ;' '+1 x2 +1 ~x3 >= 1 ;'
 for file in empty.opb units.opb; do

@@ -78,7 +78,7 @@ ln -s "$examples" examples
 text row.opb '+4 ~x1 +3 ~x2 +2 ~x3 >= 4 ; +4 ~x4 +3 ~x5 +2 ~x6 >= 4 ;'
 grows 0 encode row.opb one
 
-# What a buffer holds when memory is wanting is written: the second constraint's growth is refused after the first's clauses.
+# What a buffer holds when memory runs out is written: the second constraint's growth is refused after the first's clauses.
 wanted=$'6 p cnf 12 10\n-7 -1 8 0\n-8 9 0\n-8 -2 0\n-9 -3 0\n7 0\n'
 found=no
 for text in "${standing[@]}"; do

@@ -1,4 +1,4 @@
-# The launcher ./pbcnf: it says how it is used, and its version; else it hands over to the program of release/, or to the one that was built here, with its words, streams and
+# The launcher ./pbcnf: it says how it is used, and its version; else it runs the program of release/, or the one that was built here, with its words, streams and
 # status, and builds one where neither is of the sources that are there; where it cannot, that is status 70.
 . "$top/tests/lib.sh"
 

@@ -1,4 +1,4 @@
-# Memory goes by the text, and not by the greatest number in it.
+# Memory depends on the text, and not on the greatest number in it.
 . "$top/tests/lib.sh"
 needs prlimit
 

@@ -1,4 +1,4 @@
-# The tables of docs/MISTAKES.md: each text and each command there gets the line that stands beside it, and the mended one not.
+# The tables of docs/MISTAKES.md: each text and each command there gets the line beside it, and the mended one not.
 . "$top/tests/lib.sh"
 
 ln -s "$examples" examples

@@ -10,7 +10,7 @@ plain() {
     sed 's/\\-/-/g; s/\\|/|/g; s/"//g; s/  */ /g' "$1"
 }
 
-# Whether the program takes these words. None of the names among them is a file.
+# True if the program takes these words. None of the names among them is a file.
 takes() {
     "$pbcnf" "$@" >"$state/words" 2>&1
     [ $? -ne 2 ]

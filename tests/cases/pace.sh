@@ -1,4 +1,4 @@
-# Time goes by the size: a text four times as long takes no more than nine times as long, by the processor's time of the best runs. What
+# Time grows with the size: a text four times as long takes no more than nine times as long, by the processor's time of the best runs. What
 # is linear takes four times as long, and what is quadratic sixteen times.
 . "$top/tests/lib.sh"
 . "$top/tests/problems.sh"

@@ -114,7 +114,7 @@ other_versions() {
     [ $? -le 1 ]
 }
 
-# Names that gave way to the field's word, where docs/GLOSSARY.md has the word that stands for them.
+# Names that gave way to the field's word, if docs/GLOSSARY.md has the word in their place.
 retired_words() {
     local words='Owed|owed_[a-z]+|Owing|Obeys|ObeysWithin|Obeying|Poses|IsPosed|PosedProblems|Outbox|Sheet|Wear|Ways|Turns?Of|HandedReasons'
     words+='|take_(claim|deletions?|meanings?|propagated|steps|clauses|row|rows|output|outputs|node|part)|[a-z]+_reasons?|[A-Z][a-z]+Meanings?'
@@ -123,7 +123,7 @@ retired_words() {
     return 0
 }
 
-# The spec files of crates that stand in no folder of the four that docs/ARCHITECTURE.md names.
+# The spec files of crates that are in no folder of the four that docs/ARCHITECTURE.md names.
 misplaced_specs() {
     (cd "$top/crates" && find . -path '*/specs/*' -name '*.antt' -not -path '*/out/*' | grep -vE '/specs/((inner|laws|examples|reader)/)?[^/]+$')
     return 0

@@ -79,7 +79,7 @@ git_of init && git_of add -A && git_of commit -m all
 expect 0 quick
 done_with '5 passed, 0 failed' run
 
-# What changed, and what stands above, is proved, and its edits are tried; what was noted then counts, and no commit.
+# What changed, and what is above, is proved, and its edits are tried; what was noted then counts, and no commit.
 source_is pb_left lib '// pb_left, otherwise'
 expect 0 quick
 done_with '8 passed, 0 failed' 'edits pb_left' 'end pb_left' 'end pbcnf' run
@@ -146,7 +146,7 @@ expect 2 "$top/tests/edits" no_crate
 says
 
 # Edits of a crate whose check is small, which has to be proved here: one is right in other words, one only renames what a proof
-# cites, one is wrong, one does not compile, and the old text of one stands twice.
+# cites, one is wrong, one does not compile, and the old text of one occurs twice.
 text right.edit 'file: src/grid.rt' \
     'old:         place_at(self.terms.len(), self.width, number)' \
     'new:         let at = number; place_at(self.terms.len(), self.width, at)'

@@ -1,4 +1,4 @@
-# A cargo project elsewhere that stands on library/rust, as who has neither rt nor an installed library: it links what the repository
+# A cargo project elsewhere that uses library/rust, as who has neither rt nor an installed library: it links what the repository
 # has ready.
 . "$top/tests/lib.sh"
 needs cargo
@@ -13,7 +13,7 @@ text bin/rt '#!/bin/sh' "touch '$PWD/rt-was-run'"
 chmod 755 bin/rt
 PATH=$PWD/bin:$PATH
 
-# make_project NAME CRATE: a project of this name that stands on this crate.
+# make_project NAME CRATE: a project of this name that uses this crate.
 make_project() {
     mkdir -p "$1/src"
     text "$1/Cargo.toml" '[package]' "name = \"$1\"" 'version = "1.0.0"' 'edition = "2021"' '[dependencies]' "pbcnf = { path = \"$2\" }"

@@ -25,7 +25,7 @@ closed() {
     esac
 }
 
-# ends WHICH STATUS LINE WORD..: as `fault`, without these streams; the line stands on standard error, if that is open.
+# ends WHICH STATUS LINE WORD..: as `fault`, without these streams; the line comes to standard error, if that is open.
 ends() {
     local got
     last="without $1: $(shown "${@:4}")"

@@ -1,4 +1,4 @@
-# One number, that of VERSION, stands in all files that have it: docs/tools/version finds those with another, and writes it.
+# One number, that of VERSION, is in all files that have it: docs/tools/version finds those with another, and writes it.
 . "$top/tests/lib.sh"
 
 copy="$PWD/a copy"

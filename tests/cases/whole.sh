@@ -1,4 +1,4 @@
-# Texts of several buffers: what each command reads, makes and says is whole, byte for byte. What is due is worked out beside it.
+# Texts of several buffers: what each command reads, makes and says is whole, byte for byte. What is expected is worked out by other means.
 . "$top/tests/lib.sh"
 
 count=12000

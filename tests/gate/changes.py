@@ -1,4 +1,4 @@
-"""Which crates changed since they were last looked at here, and which stand above them."""
+"""Which crates changed since they were last looked at here, and which are above them."""
 import hashlib
 import os
 import subprocess
@@ -11,7 +11,7 @@ PARTS = (*room.PARTS, *edits.FOLDERS)
 
 
 def above(names, uses):
-    """The crates that stand above some of these, which are left out. uses has what each crate stands on at once."""
+    """The crates above some of these, which are left out. uses has what each crate uses itself."""
     found = set(names)
     while True:
         more = {it for it in uses if it not in found and found & set(uses[it])}

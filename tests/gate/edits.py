@@ -22,7 +22,7 @@ def edits_of(folder):
 
 
 class Edit:
-    """A file of lines `file: PATH`, `old: TEXT` and `new: TEXT`: each old text stands once in the last file that was named."""
+    """A file of lines `file: PATH`, `old: TEXT` and `new: TEXT`: each old text occurs once in the last file that was named."""
 
     def __init__(self, file):
         self.file, self.name = file, os.path.basename(file)[: -len(".edit")]
@@ -50,7 +50,7 @@ class Edit:
                 made[path] = text_of(folder, path)
             found = made[path].count(old)
             if found != 1:
-                raise Unfit(f"an old text stands in {path} {found} times, and not once")
+                raise Unfit(f"an old text occurs in {path} {found} times, and not once")
             made[path] = made[path].replace(old, new)
         if all(old == new for _, old, new in self.pairs):
             raise Unfit("it changes nothing")

@@ -13,7 +13,7 @@ SILENT = re.compile(r"\bghost\s+\w+\s*=\s*\{\s*λ\s*\w+\.\s*None\s*\}")
 
 
 def head_of(text, function):
-    """What stands before the body of a function."""
+    """What precedes the body of a function."""
     return source.blanked(text)[function.begin : function.body[0]]
 
 
@@ -36,7 +36,7 @@ def impl_of(text, function):
 
 
 def is_claimed(text, function, traits):
-    """Whether a clause says what the function answers: its own, or one of its trait. A value that is let go answers nothing."""
+    """True if a clause says what the function answers: its own, or one of its trait. A value that is let go answers nothing."""
     if "ensures" in head_of(text, function):
         return True
     _, trait = names.type_and_trait(function.holder)

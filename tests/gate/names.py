@@ -31,7 +31,7 @@ def path_of(function, known):
     named = [it for it in known if it.split(".")[-1] == function.name]
     fits = [it for it in named if it.startswith(begin) and it.count(".") == begin.count(".") + bool(kind)]
     if kind:
-        # A type's methods may stand in another module than the type.
+        # A type's methods may be in another module than the type.
         fits = fits or [it for it in named if it.count(".")]
         of_kind = [it for it in fits if it.split(".")[-2].startswith(kind)]
         of_both = [it for it in of_kind if it.split(".")[-2] == kind + trait] or [it for it in of_kind if it.split(".")[-2].startswith(kind + trait)]

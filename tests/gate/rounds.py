@@ -29,7 +29,7 @@ class Trial:
         return self.reach[function]
 
     def are_near(self, one, other):
-        """Whether one of two functions may call the other, or both are the same."""
+        """True if one of two functions may call the other, or both are the same."""
         return one is other or other in self.reach_of(one) or one in self.reach_of(other)
 
     def rounds_of(self, placed):
@@ -44,7 +44,7 @@ class Trial:
         return rounds
 
     def may_join(self, edit, others):
-        """Whether an edit is told apart from others in one check: no function may call another, and each old text stands once with all the edits."""
+        """True if an edit is told apart from others in one check: no function may call another, and each old text occurs once with all the edits."""
         if any(self.are_near(edit.function, it.function) for it in others):
             return False
         try:

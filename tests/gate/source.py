@@ -4,7 +4,7 @@ import re
 
 # Comments, strings and characters; a lifetime is none.
 APART = re.compile(r"""//[^\n]*|\bb?r(#*)".*?"\1|b?"(?:[^"\\]|\\.)*"|b?'(?:[^'\\\n]|\\u\{[^}\n]*\}|\\[^\n])'""", re.S)
-# What stands before the brace of a clause, as `ensures sum {` and `ghost low: {`.
+# What precedes the brace of a clause, as `ensures sum {` and `ghost low: {`.
 CLAUSE = re.compile(r"\b(requires|ensures|ghost|invariant|measure|decreases)\b\*?\s*(\w+\s*:?\s*)?$")
 HOLDER = re.compile(r"(?m)^\s*(?:pub(?:\([a-z]+\))?\s+)?(?:unsafe\s+)?(impl\b|trait\b)")
 CALL = re.compile(r"\b(\w+)\s*(?:::<[^>]*>)?\(")

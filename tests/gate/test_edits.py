@@ -118,8 +118,8 @@ class Edits(unittest.TestCase):
         self.assertEqual(unfit, [])
 
     def test_what_cannot_be_applied_is_told(self):
-        self.assertEqual(self.why(self.body("u8", "u16")), ["an old text stands in src/lib.rt 4 times, and not once"])
-        self.assertEqual(self.why(self.body("u9", "u16")), ["an old text stands in src/lib.rt 0 times, and not once"])
+        self.assertEqual(self.why(self.body("u8", "u16")), ["an old text occurs in src/lib.rt 4 times, and not once"])
+        self.assertEqual(self.why(self.body("u9", "u16")), ["an old text occurs in src/lib.rt 0 times, and not once"])
         self.assertEqual(self.why(self.edit("file: src/none.rt", "old: a", "new: b")), ["there is no file src/none.rt"])
         self.assertEqual(self.why(self.edit("file: src/../x.rt", "old: a", "new: b")), ["src/../x.rt names no file of src/, specs/ or proofs/"])
         self.assertEqual(self.why(self.edit("file: src/lib.rt")), ["it has no pair of an old and a new text"])

@@ -1,4 +1,4 @@
-"""Tests of what tests/quick decides: which crates stand above, which steps there are, and how they run. They need no rt.
+"""Tests of what tests/quick decides: which crates are above, which steps there are, and how they run. They need no rt.
 
 usage: python3 tests/gate/test_work.py
 """

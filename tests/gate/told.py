@@ -56,7 +56,7 @@ def short(text, most=170):
 
 
 def is_read(said):
-    """Whether the check read the texts: it then ends with a line of its own."""
+    """True if the check read the texts: it then ends with a line of its own."""
     return bool(re.search(r"(?m)^(logic|only)=", said)) and not re.search(r"(?m)^(\S+:\d+:\d+: )?error\[", said)
 
 

@@ -79,11 +79,11 @@ class Work:
         return set().union(*(below(it, self.uses) for it in ends))
 
     def to_test(self):
-        """The crates whose tests are run: those that changed, and with the word for it those that stand above."""
+        """The crates whose tests are run: those that changed, and with the word for it those above."""
         return sorted((self.touched() if self.is_asked else self.changed) & self.with_tests)
 
     def left_out(self):
-        """What stands above and is not looked at, as lines."""
+        """What is above and is not looked at, as lines."""
         tests = sorted((self.above & self.with_tests) - set(self.to_test()))
         rows = [f"the tests of {' '.join(tests)}: --tests runs them, which takes some minutes each"] if tests else []
         rows += [f"{name}, which was never built here" for name in sorted(self.never_built())]

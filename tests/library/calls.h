@@ -158,12 +158,12 @@ static inline int is_untouched(const void *room, size_t from, size_t to) {
   return 1;
 }
 
-/* Whether it reports no size. */
+/* True if it reports no size. */
 static inline int is_bare(const struct answer *a) {
   return a->length == 0 && a->size.vars == 0 && a->size.original == 0 && a->size.clauses == 0 && a->size.length == 0;
 }
 
-/* Whether it reports nothing but the status. */
+/* True if it reports nothing but the status. */
 static inline int is_plain(const pbcnf_refusal *r, uint32_t status) {
   return r->status == status && r->line == 0 && r->column == 0 && r->number == 0 && r->file == 0 && r->expected == 0 && r->limit == 0 &&
          r->denied == 0 && r->unproved == 0;

@@ -48,7 +48,7 @@ static int propagate(uint64_t length) {
   return 0;
 }
 
-/* Whether the values extend to a model of the clauses. */
+/* True if the values extend to a model of the clauses. */
 static int extends(uint64_t length, uint32_t vars) {
   int8_t before[MOST];
   uint32_t v = 1;
@@ -99,7 +99,7 @@ static struct left left_of(const struct sum *s, uint32_t relation, const int8_t 
   return left;
 }
 
-/* Whether an equality asks for a number of its literals, of three or more: then it may be encoded as one. */
+/* True if an equality asks for a number of its literals, of three or more: then it may be encoded as one. */
 static int asks_for_some(const struct sum *s) {
   int64_t nets[FIRST] = {0}, one = 0;
   int count = 0, trues = 0;

@@ -1,6 +1,6 @@
 #!/usr/bin/env python3
 """Tests what the Python module makes of its arguments and of the library's answers at their edges: long texts, other letters than
-ASCII's, a limit that has no place, and want of memory.
+ASCII's, a limit that has no place, and out of memory.
 
 It looks for the library as a user's program would. usage: edges.py [-v]
 """

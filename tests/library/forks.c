@@ -9,7 +9,7 @@ enum { THREADS = 3, FORKS = 60, ROOM = 4096 };
 
 static volatile int is_over;
 
-/* Whether the clauses of the first problem are these. */
+/* True if the clauses of the first problem are these. */
 static int makes(const int32_t *due, uint64_t length) {
   static _Thread_local int32_t clauses[ROOM];
   struct answer a = spoiled();

@@ -16,7 +16,7 @@ void judge(bool holds, const char *what) {
 
 const std::string opb = "min: +3 rain -2 sun ;\n+2 rain +1 sun +1 x1 x2 >= 2 ;\n+1 rain +1 x1 = 1 ;\n";
 
-/* Whether a call is refused so. */
+/* True if a call is refused so. */
 template <typename Call>
 bool refuses(Call call, int status, const std::string &words) {
   try {

@@ -8,7 +8,7 @@ enum { NULL_SEEN = 99 };
 static const pbcnf_options options = PBCNF_OPTIONS_DEFAULT;
 static const pbcnf_bound bound = PBCNF_NO_BOUND;
 
-/* Whether there are addresses of arrays without items, or nulls. */
+/* True if there are addresses of arrays without items, or nulls. */
 static int is_null;
 static uint64_t item;
 

@@ -10,7 +10,7 @@ static const struct {
     {PBCNF_FILE_OPB, "OPB"}, {PBCNF_FILE_CNF, "CNF"}, {PBCNF_FILE_PROOF, "PROOF"}, {PBCNF_FILE_MODEL, "MODEL"}, {PBCNF_FILE_LRAT, "LRAT"},
 };
 
-/* Whether the library has this name for the text of this number. */
+/* True if the library has this name for the text of this number. */
 static int is_named(uint32_t number, const char *name) {
   const pbcnf_refusal r = {3, 7, 0, PBCNF_REFUSED, number, PBCNF_EXPECTED_INTEGER, 0, 0, 0};
   char due[64];

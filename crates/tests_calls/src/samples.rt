@@ -7,7 +7,7 @@ use pb_norm::{AtMost, Half, Linear, Linears, Rest, load, normalize, reduce};
 use pb_opb::read_opb;
 use std::alloc::Global;
 
-/// The literals that stand in a text, as in `x1 ~x2`.
+/// The literals of a text, as in `x1 ~x2`.
 pub fn lits(alloc: Global, text: &str) -> Option<Vec<Lit>> {
     let mut made = Vec::new(alloc);
     for word in words(text.as_bytes()) {

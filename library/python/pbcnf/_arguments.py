@@ -159,7 +159,7 @@ def posed_all(constraints: Iterable[Tuple[Iterable[Tuple[int, int]], str, int]],
 
 
 def _packed(number: int, terms: int, relation: str, right: int) -> bytes:
-    """What stands beside the terms of the constraint of this number."""
+    """The relation and the right side of the constraint of this number."""
     value = index(right)
     try:
         return SUM.pack(RELATIONS[relation], 0, terms, value & ((1 << 64) - 1), value >> 64)

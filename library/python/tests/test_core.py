@@ -68,7 +68,7 @@ WAYS = [[], ["--general", "tree", "--equal", "joint"], ["--general=adder", "--ca
 
 
 def holds(statement, values):
-    """Whether a statement is true; what stands here of the grammar is enough for the ones above."""
+    """True if a statement is true; what is here of the grammar is enough for the ones above."""
     words = re.sub(r"\*[^\n]*", "", statement).replace(";", "").split()
     at = next(number for number, word in enumerate(words) if word in (">=", "<=", "="))
     total = coefficient = 0

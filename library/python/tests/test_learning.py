@@ -95,7 +95,7 @@ class Learning(unittest.TestCase):
         return found
 
     def refutes(self, text, bound):
-        """Whether the program takes the derivation for this bound."""
+        """True if the program takes the derivation for this bound."""
         option = "--at-most%s=%d" % ("-minus" if bound < 0 else "", abs(bound))
         run = subprocess.run([os.environ["PBCNF"], "refute", self.put("opb", text), self.path("cnf"), self.path("proof"), self.put("lrat", ""), option],
                              stdout=subprocess.PIPE, check=False)

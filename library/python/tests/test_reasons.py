@@ -28,7 +28,7 @@ SQUARE = [[1, 2], [1, -2], [-1, 2], [-1, -2]]
 
 
 def refutes(clauses, lines):
-    """Whether an LRAT text ends in an empty clause, and each of its clauses follows from its hints, looked at in their order."""
+    """True if an LRAT text ends in an empty clause, and each of its clauses follows from its hints, looked at in their order."""
     live = dict(enumerate(clauses, 1))
     last, is_empty = len(clauses), False
     for line in lines:

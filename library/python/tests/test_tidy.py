@@ -1,4 +1,4 @@
-"""Texts of other spellings, rewritten: they say what they said before, by the meaning that stands here beside each.
+"""Texts of other spellings, rewritten: they say what they said before, by the meaning that is given here beside each.
 
 The meaning is a condition in Python, written by hand. Where the library is there, the program's own `decode` judges every assignment
 of the rewritten text, and the clauses of `encode` go to CaDiCaL where that is on the path.

@@ -110,7 +110,7 @@ class Running(Folder):
 
 
 def gone(pid):
-    """Whether a process ends within a minute; a zombie that nobody waits for has ended."""
+    """True if a process ends within a minute; a zombie that nobody waits for has ended."""
     for _ in range(3000):
         try:
             with open("/proc/%d/stat" % pid) as file:

@@ -1,4 +1,4 @@
-"""The checker of VeriPB's format by itself: proofs made by hand, right and wrong. What is due was worked out on paper."""
+"""The checker of VeriPB's format by itself: proofs made by hand, right and wrong. What is expected was worked out on paper."""
 
 from __future__ import annotations
 
@@ -29,7 +29,7 @@ conclusion NONE
 end pseudo-Boolean proof
 """
 
-# What is wrong, the line that is changed, what stands in its place, and the line at which the checker is to stop.
+# What is wrong, the line that is changed, what is put in its place, and the line at which the checker is to stop.
 WRONG = [
     ("another version", 1, "pseudo-Boolean proof version 1.2", 1),
     ("another number of constraints", 2, "f 3", 2),

@@ -94,7 +94,7 @@ def opposite(constraint: Constraint) -> Constraint:
 
 
 def implies(one: Constraint, other: Constraint) -> bool:
-    """Whether the second comes of the first by literal axioms alone."""
+    """True if the second comes of the first by literal axioms alone."""
     above = sum(max(a - other.coefficients.get(literal, 0), 0) for a, literal in terms_of(one))
     return other.is_trivial() or one.degree - above >= other.degree
 

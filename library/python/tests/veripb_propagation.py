@@ -18,7 +18,7 @@ def _advance(constraint: Constraint, true: Set[str]) -> Optional[List[str]]:
 
 
 def propagate_in_order(constraints: Iterable[Constraint]) -> bool:
-    """Whether one of the constraints is violated, each being propagated once, in this order."""
+    """True if one of the constraints is violated, each being propagated once, in this order."""
     true: Set[str] = set()
     for constraint in constraints:
         reached = _advance(constraint, true)
@@ -54,7 +54,7 @@ class Database:
         return sorted({id for name in variables for literal in (name, "~" + name) for id in self._with.get(literal, ())})
 
     def conflicts(self, assumed: List[Constraint]) -> bool:
-        """Whether unit propagation over all that is live, and over these, comes to a violated constraint."""
+        """True if unit propagation over all that is live, and over these, comes to a violated constraint."""
         true: Set[str] = set()
         waiting = {-1 - place: constraint for place, constraint in enumerate(assumed)}
         assumed_with = [(place, constraint) for place, constraint in waiting.items()]

@@ -66,7 +66,7 @@ impl Constraints {
         self.sums.len()
     }
 
-    /// Whether there is none.
+    /// True if there is none.
     pub fn is_empty(&self) -> bool {
         self.sums.is_empty()
     }

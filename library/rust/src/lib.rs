@@ -159,7 +159,7 @@ fn judged(status: u8, refusal: &c::Refusal) -> Result<(), Error> {
     }
 }
 
-/// Whether a derivation shows that each solution of a problem is the front of a model of a CNF, else why not.
+/// Checks whether a derivation shows that each solution of a problem is the front of a model of a CNF, else why not.
 ///
 /// ```
 /// let (opb, options) = (b"+1 x1 +1 x2 >= 1 ;", pbcnf::Options::new());
@@ -188,7 +188,7 @@ pub fn check(opb: &[u8], at_most: Option<i128>, cnf: &[u8], proof: &[u8]) -> Res
     judged(status, &refusal)
 }
 
-/// Whether these show that a problem has no solution, else why not: the derivation as in `check`, and the refutation, in the LRAT
+/// Checks whether these show that a problem has no solution, else why not: the derivation as in `check`, and the refutation, in the LRAT
 /// format, of the CNF.
 ///
 /// ```

@@ -34,7 +34,7 @@ impl Lit {
         self.get().unsigned_abs()
     }
 
-    /// Whether the variable is negated.
+    /// True if the variable is negated.
     pub const fn is_negated(self) -> bool {
         self.get() < 0
     }

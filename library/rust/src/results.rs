@@ -147,7 +147,7 @@ impl Solution {
         self.objective
     }
 
-    /// Whether each variable is true, by its name, in the order of the variables.
+    /// The value of each variable, by its name, in the order of the variables.
     pub fn values(&self) -> &[(String, bool)] {
         &self.values
     }

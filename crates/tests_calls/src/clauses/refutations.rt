@@ -14,7 +14,7 @@ fn push_clause(alloc: Global, made: &mut Clauses, line: &str) -> Option<()> {
     made.push(Clause::from_vec(lits(alloc, line)?)).ok()
 }
 
-// The clauses whose literals stand in the lines of a text.
+// The clauses whose literals are the lines of a text.
 fn clauses(alloc: Global, text: &str) -> Option<Clauses> {
     let mut made = Clauses::new(alloc);
     for line in text.split('\n') {

@@ -120,14 +120,14 @@ fn draw_system(alloc: Global, state: &mut u32) -> Option<String> {
     Some(text)
 }
 
-// Whether the engine and the rounds find the same of a system.
+// True if the engine and the rounds find the same of a system.
 fn agree_on(alloc: Global, text: &str, given: &str) -> Option<bool> {
     let found = reached(alloc, 6, text, given)?;
     let wanted = rounds(alloc, text, given)?;
     Some(found.as_str() == wanted.as_str())
 }
 
-// Whether they do so of the next system.
+// True if they do so of the next system.
 fn agree_on_next(alloc: Global, state: &mut u32) -> Option<bool> {
     let text = draw_system(alloc, state)?;
     let mut given = String::new(alloc);
@@ -135,7 +135,7 @@ fn agree_on_next(alloc: Global, state: &mut u32) -> Option<bool> {
     agree_on(alloc, text.as_str(), given.as_str())
 }
 
-// Whether they do so for so many systems.
+// True if they do so for so many systems.
 fn agree(alloc: Global, count: u32) -> bool {
     let mut state: u32 = 1;
     for _ in 0..count {

@@ -3,7 +3,7 @@ use super::checking::is_accepted;
 use crate::samples::families::{Files, Kind, Sum, made};
 use std::alloc::Global;
 
-/// What stands in the place of a line.
+/// What is put in the place of a line.
 #[derive(Clone, Copy)]
 pub enum Instead {
     /// Nothing.
@@ -30,7 +30,7 @@ fn with_line(alloc: Global, text: &str, place: usize, other: &str) -> Option<Str
     Some(made)
 }
 
-/// Whether a derivation is accepted with another line at a place.
+/// True if a derivation is accepted with another line at a place.
 pub fn is_accepted_with(
     alloc: Global,
     opb: &str,
@@ -42,7 +42,7 @@ pub fn is_accepted_with(
     is_accepted(alloc, opb, files.cnf.as_str(), proof.as_str())
 }
 
-// What stands in the place of a line of a text, if anything does. The line at the place before put out last.
+// What is put in the place of a line of a text, if anything is. The line at the place before put out last.
 fn other_line<'a>(text: &'a str, line: &str, before: usize, instead: Instead) -> Option<&'a str> {
     let puts_out = line.starts_with("out ");
     match instead {
@@ -54,7 +54,7 @@ fn other_line<'a>(text: &'a str, line: &str, before: usize, instead: Instead) ->
     }
 }
 
-// At how many lines a derivation is accepted where that stands in the line's place.
+// At how many lines a derivation is accepted with that in the line's place.
 fn count_accepted(alloc: Global, opb: &str, files: &Files, instead: Instead) -> Option<u64> {
     let mut count: u64 = 0;
     let mut before = 0;

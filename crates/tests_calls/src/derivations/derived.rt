@@ -51,7 +51,7 @@ fn report_of(alloc: Global, kind: Kind, opb: &str) -> Option<String> {
     report(alloc, kind, sum)
 }
 
-// Families and statements, and what is due of their derivations: the number of lines, and then how many of them may be left out
+// Families and statements, and what is expected of their derivations: the number of lines, and then how many of them may be left out
 // (those that delete), be empty (these, and constraints of which no clause has need), give way to the sum (at most one implies each
 // clause of two of its literals), or to what was put out before.
 const CASES: &[(Kind, &str, &str)] = &[
@@ -73,7 +73,7 @@ const CASES: &[(Kind, &str, &str)] = &[
     (Kind::Tree, FALLING, "49: 8 12 0 0"),
     (Kind::Tree, GREAT, "49: 8 12 0 0"),
     (Kind::Tree, NEAR, "36: 5 7 0 0"),
-    // All adders stand in one block, so there is one running sum, which goes last. At most one implies each clause of two of its
+    // All adders are in one block, so there is one running sum, which goes last. At most one implies each clause of two of its
     // literals and others.
     (Kind::Adder, FALLING, "49: 5 5 0 0"),
     (Kind::Adder, THREE, "41: 3 3 7 0"),
@@ -99,7 +99,7 @@ const SECOND: &[(Kind, &str)] = &[
     (Kind::Adder, EIGHTS),
 ];
 
-// Whether a family derives what the second of two statements leaves, with fresh variables from 20 on.
+// True if a family derives what the second of two statements leaves, with fresh variables from 20 on.
 fn is_second_derived(alloc: Global, kind: Kind, opb: &str) -> Option<bool> {
     let sum = Sum {
         opb,

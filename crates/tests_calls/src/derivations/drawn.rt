@@ -95,7 +95,7 @@ fn draw_weighted_kind(state: &mut u32) -> Kind {
     }
 }
 
-// Whether a derivation is accepted, and without a drawn line only where that deletes.
+// True if a derivation is accepted, and without a drawn line only where that deletes.
 fn is_accepted_whole(alloc: Global, state: &mut u32, opb: &str, files: &Files) -> Option<bool> {
     let proof = files.proof.as_str();
     let whole = is_accepted(alloc, opb, files.cnf.as_str(), proof)?;
@@ -111,7 +111,7 @@ fn is_derived(alloc: Global, state: &mut u32, kind: Kind, sum: Sum) -> Option<bo
     is_accepted_whole(alloc, state, sum.opb, &files)
 }
 
-// Whether that is so of the next sum without weights.
+// True if that is so of the next sum without weights.
 fn is_next_derived(alloc: Global, state: &mut u32) -> Option<bool> {
     let bound = 1 + (draw(state) % 8).saturating_sub(4);
     let least = 2 + draw(state) % 7;
@@ -126,7 +126,7 @@ fn is_next_derived(alloc: Global, state: &mut u32) -> Option<bool> {
     is_derived(alloc, state, kind, sum)
 }
 
-// Whether that is so of the next sum with weights.
+// True if that is so of the next sum with weights.
 fn is_next_weighted_derived(alloc: Global, state: &mut u32, scale: u128) -> Option<bool> {
     let count = 4 + draw(state) % 4;
     let opb = draw_weights(alloc, state, count, scale)?;
@@ -140,7 +140,7 @@ fn is_next_weighted_derived(alloc: Global, state: &mut u32, scale: u128) -> Opti
     is_derived(alloc, state, kind, sum)
 }
 
-// Whether that is so of the sum at a place, without weights or with them: every second one has great ones.
+// True if that is so of the sum at a place, without weights or with them: every second one has great ones.
 fn is_derived_at(alloc: Global, state: &mut u32, place: u32, weighted: bool) -> Option<bool> {
     match (weighted, place % 2) {
         (false, _) => is_next_derived(alloc, state),

@@ -104,7 +104,7 @@ fn sets_of(alloc: Global, names: &str) -> Option<Vec<Set>> {
     Some(sets)
 }
 
-// Whether a constraint has a variable that is set, and what is left of it.
+// `true` if a variable of a constraint is set, and what is left of it.
 fn restricted_by(alloc: Global, constraint: &Linear, sets: &[Set]) -> Option<String> {
     let left = restriction(alloc, sets, constraint).ok()?;
     let line = linear_text(alloc, &left)?;
@@ -124,7 +124,7 @@ const RESTRICTED: &str = "\
 3 x1 2 x2 1 x3 >= 4 ; under ~x1 => true 2 x2 1 x3 >= 4
 3 x1 2 x2 1 x3 >= 4 ; under x4 => false 3 x1 2 x2 1 x3 >= 4";
 
-// Whether each of the two constraints around `implies` implies the other.
+// True if each of the two constraints around `implies` implies the other.
 fn implied(alloc: Global, text: &str) -> Option<String> {
     let (one, other) = text.split_once(" implies ")?;
     let one = linear(alloc, one)?;

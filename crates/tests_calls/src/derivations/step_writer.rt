@@ -49,7 +49,7 @@ fn write_pairs<D: Desk>(alloc: Global, desk: &mut D, opb: &str) -> Option<u64>
     write_new(alloc, desk, &of)
 }
 
-// Whether that is written as this text, and the next id is this one.
+// True if that is written as this text, and the next id is this one.
 fn is_written(alloc: Global, opb: &str, next: u64, text: &str) -> Option<bool> {
     let mut desk = desk_with(alloc, "", "", Ids::new(alloc))?;
     let found = write_pairs(alloc, &mut desk, opb)?;

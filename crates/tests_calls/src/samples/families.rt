@@ -61,7 +61,7 @@ fn cnf_text<F: Family>(alloc: Global, family: &F, first: u32) -> Option<String>
     format!(in alloc; "p cnf {vars} {}\n{lines}", family.clauses()).ok()
 }
 
-// The steps of a family between the lines that stand before and after them, where so many constraints stand.
+// The steps of a family between the lines that precede and follow them, if so many constraints are loaded.
 fn proof_text<F: Derive>(alloc: Global, family: &F, first: u32, loaded: u64) -> Option<String>
     requires { VarsBelow first (F.Family.constraint family.now).terms }
 {

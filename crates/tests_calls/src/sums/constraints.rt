@@ -17,7 +17,7 @@ const NORMAL: &str = "\
 3 x1 -2 x2 0 x3 4 ~x4 >= 1 ; => 3 x1 2 ~x2 4 ~x4 >= 3
 4 ~x4 1 x1 -2 x2 2 x1 >= 1 ; => 3 x1 2 ~x2 4 ~x4 >= 3";
 
-// Whether a constraint over three variables holds under values of these.
+// True if a constraint over three variables holds under values of these.
 fn holds(alloc: Global, text: &str, model: &[bool; 3]) -> Option<bool> {
     let constraint = linear(alloc, text)?;
     if !are_below(constraint.terms(), 4) {

@@ -43,7 +43,7 @@ fn added(alloc: Global, text: &str, bound: i128) -> Option<String> {
 
 const COSTS: &str = "min: +3 x1 -1 ~x2 ; +1 x1 +1 x2 >= 1 ;";
 
-// Problems, bounds, and the statement that is due.
+// Problems, bounds, and the expected statement.
 const CASES: &[(&str, i128, &str)] = &[
     (COSTS, 2, "2 terms, 2"),
     (COSTS, -2, "2 terms, -2"),

@@ -61,7 +61,7 @@ fn asked(alloc: Global, line: &str) -> Option<String> {
     asked_by(alloc, &words)
 }
 
-// Each line asks for what stands after `=>`.
+// Each line requests what follows `=>`.
 const LINES: &str = "\
 pbcnf probe c => c
 pbcnf probe c x1 ~x02 x2147483647 => c x1 ~x2 x2147483647

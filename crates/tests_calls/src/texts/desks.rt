@@ -36,7 +36,7 @@ fn copy<D: Desk>(
 
 const TEXT: &str = "+1 x1;\n";
 
-// Whether a copy of the text ended well.
+// True if a copy of the text ended well.
 fn is_copied<D: Desk>(alloc: Global, desk: &mut D, limit: u64) -> bool
     requires { IsClosed (D.state desk.old) }
 {
@@ -92,7 +92,7 @@ fn a_text_is_read_written_and_said(rt: HostRuntime) {
     }
 }
 
-// Whether a name is made once, and opened where it is there alone.
+// True if a name is made once, and opened where it is there alone.
 fn uses_names_once<D: Desk>(desk: &mut D) -> bool
     requires { IsClosed (D.state desk.old) }
 {

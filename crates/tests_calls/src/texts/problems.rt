@@ -19,7 +19,7 @@ fn read(alloc: Global, text: &str) -> Option<String> {
     }
 }
 
-// Texts with their variables or first faults, which stand after `=>`.
+// Texts with their variables or first faults, which follow `=>`.
 const CASES: &str = "\
 +1 x1 >= 1 => 1:11: ;
 
@@ -107,7 +107,7 @@ fn names(alloc: Global, text: &str) -> Option<String> {
     names_of(alloc, &problem)
 }
 
-// Texts with the number and the names, which stand after `=>`.
+// Texts with the number and the names, which follow `=>`.
 const NAMED: &str = "\
 +1 x2 +1 ~x1 >= 1 ; => 2
 
@@ -164,7 +164,7 @@ fn products(alloc: Global, text: &str) -> Option<String> {
     products_of(alloc, &problem)
 }
 
-// Texts with their products and terms, which stand after `=>`.
+// Texts with their products and terms, which follow `=>`.
 const MULTIPLIED: &str = "\
 +1 x1 x2 >= 1 ; => 1 2 ; 3:1
 

@@ -217,7 +217,7 @@ fn by_system(rt: &HostRuntime, asked: &Asked, from: &str, to: &str) -> Result<An
     answers(&mut RealDesk::new(system), asked, from, to)
 }
 
-// Whether a file holds this text.
+// True if a file holds this text.
 fn holds(rt: &HostRuntime, name: &str, text: &str) -> bool {
     match fs::read_to_string(rt, name) {
         Ok(kept) => kept.as_str() == text,
@@ -225,13 +225,13 @@ fn holds(rt: &HostRuntime, name: &str, text: &str) -> bool {
     }
 }
 
-// Whether a file is made that has two names.
+// True if a file is made that has two names.
 fn is_laid(rt: &HostRuntime, name: &str, linked: &str) -> bool {
     fs::write(rt, name, "* what was there before\n").is_ok()
         && fs::hard_link(rt, name, linked).is_ok()
 }
 
-// Whether both names are taken away.
+// True if both names are taken away.
 fn is_cleared(rt: &HostRuntime, name: &str, linked: &str) -> bool {
     fs::remove_file(rt, name).is_ok() && fs::remove_file(rt, linked).is_ok()
 }

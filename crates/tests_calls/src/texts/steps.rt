@@ -3,7 +3,7 @@ use crate::cases::assert_page;
 use pb_steps::{Step, StepFault, read_step, write_step};
 use std::alloc::Global;
 
-// The line of a step without its end, after what stands before it.
+// The line of a step without its end, after what precedes it.
 fn step_text(alloc: Global, step: &Step) -> Option<String> {
     let mut out = Vec::from_slice(alloc, b"<").ok()?;
     write_step(alloc, step, &mut out).ok()?;
@@ -27,7 +27,7 @@ fn rewritten(alloc: Global, line: &str) -> Option<String> {
     }
 }
 
-// Each line is read and written, after `<`, as what stands after `=>`; or this is its fault.
+// Each line is read and written, after `<`, as what follows `=>`; or this is its fault.
 const LINES: &str = "\
 \x20 * note => <
 \tpseudo-Boolean  derivation profile 1\r => <pseudo-Boolean derivation profile 1

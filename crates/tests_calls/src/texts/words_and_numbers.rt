@@ -42,7 +42,7 @@ fn number_text(alloc: Global, text: &str) -> Option<String> {
     format!(in alloc; "{:?}", read_number(text.as_bytes())).ok()
 }
 
-// Texts with what they are as numbers, which stands after `=>`.
+// Texts with what they are as numbers, which follows `=>`.
 const NUMBERS: &str = "\
 -007 => Value(-7)
 + => NotANumber

@@ -283,7 +283,7 @@ fn is_not_ended(run: &Run) -> bool {
         && run.desk.said().is_empty()
 }
 
-// Whether a run is tried over what is made of a problem with the words before.
+// True if a run is tried over what is made of a problem with the words before.
 fn is_tried_over_made(
     alloc: Global,
     making: &str,

@@ -13,7 +13,7 @@ pub fn assert_found(rt: &impl Abort, found: Option<String>, due: &str, words: &s
     assert_eq!(rt; found.as_deref(), Some(due), "{words} at {text}");
 }
 
-// What is due of a text with these words was found.
+// What is expected of a text with these words was found.
 fn assert_due(rt: &impl Abort, is_due: bool, words: &str, text: &str) {
     assert!(rt; is_due, "{words} at {text}");
 }

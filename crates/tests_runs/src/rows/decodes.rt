@@ -24,7 +24,7 @@ const SOLUTIONS: &[(&str, &str, &str, &str)] = &[
         "s SATISFIABLE\nv 9 -9 2 0",
         "s SATISFIABLE\nv -x1 x2\n",
     ),
-    // The value of the objective stands first.
+    // The value of the objective comes first.
     (
         DECODE,
         "min: +3 x1 -1 ~x2 ;\n+1 x1 +1 x2 = 1 ;\n",
@@ -32,7 +32,7 @@ const SOLUTIONS: &[(&str, &str, &str, &str)] = &[
         "o 2\ns SATISFIABLE\nv x1 -x2\n",
     ),
     (DECODE, "", "s SATISFIABLE\n", "s SATISFIABLE\nv\n"),
-    // Variables with free names stand after those with numbers.
+    // Variables with free names come after those with numbers.
     (
         DECODE,
         "+1 rain +1 x2 +1 ~sun >= 2 ;\n",

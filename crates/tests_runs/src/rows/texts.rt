@@ -113,7 +113,7 @@ pub const BACKWARDS: &str = "p cnf 12 11\n-11 12 0\n-10 11 0\n-9 10 0\n-8 9 0\n-
 // Clauses that are spread over lines, with a comment between.
 pub const SPREAD: &str = "p cnf 2 2\n1 -1 0\nc note\n1\n2 0\n";
 
-// The greatest number; what is kept goes by what the text has.
+// The greatest number; what is stored depends on what the text has.
 pub const SPARSE: &str = "p cnf 2147483647 1\n1 2147483647 0\n";
 
 // Derivations, refutations and what a solver prints.

@@ -35,7 +35,7 @@ const UNUSABLE: &[&str] = &[
     "pbcnf bench 1000001 0",
     "pbcnf bench 1 4294967296",
     "pbcnf bench +1 0",
-    // A bound is digits alone, below 2^100, and stands once.
+    // A bound is digits alone, below 2^100, and is given once.
     "pbcnf encode a c --at-most=-1",
     "pbcnf check a c p --at-most=1267650600228229401496703205376",
     "pbcnf decode a m --at-most=1 --at-most-minus=1",
@@ -45,7 +45,7 @@ const UNUSABLE: &[&str] = &[
     "pbcnf wcnf a w --at-most=+1",
     "pbcnf wcnf a w --at-most-minus=",
     "pbcnf refute a c p l --at-most-minus=1 --at-most-minus=1",
-    // A table has no value, stands once, and after `encode` alone.
+    // A table has no value, and is given once, with `encode` alone.
     "pbcnf encode a c --table=1",
     "pbcnf encode a c --table --table",
     "pbcnf wcnf a w --table",

@@ -24,7 +24,7 @@ class Answer(NamedTuple):
     value: Optional[int]
     """That of the objective, if there is one."""
     is_best: bool
-    """Whether it was refuted that any is better."""
+    """True if it was refuted that any is better."""
 
 
 def solution(problem: str, *words: str) -> Optional[Answer]:

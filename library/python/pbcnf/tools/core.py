@@ -99,7 +99,7 @@ class _Core:
         return self._workspace.path(name)
 
     def _refute(self, proved: Program) -> Verdict:
-        """Whether a problem has a solution; where it has none, the files `cnf`, `proof` and that of `_lrat` say why."""
+        """True if a problem has a solution; where it has none, the files `cnf`, `proof` and that of `_lrat` say why."""
         files = Files(self._file("cnf"), self._file("model"), self._file("reasons"))
         proved.encode(self._options, files.cnf, self._file("proof"))
         run = self._solver.run(files)
@@ -136,7 +136,7 @@ class _Core:
         return traced if self._decide(traced, None) is Verdict.NO_MODEL else every
 
     def _decide(self, kept: List[Statement], seconds: Optional[float]) -> Verdict:
-        """Whether these statements have a solution, as far as can be said in the time."""
+        """True if these statements have a solution, as far as can be said in the time."""
         self._pose(_as_text(kept)).encode(self._options, self._file("cnf"))
         return self._solver.run(Files(self._file("cnf"), self._file("model")), seconds=seconds).verdict()
 

@@ -62,7 +62,7 @@ class Encodings:
 
 
 def has_choices_alone(text: bytes) -> bool:
-    """Whether there are equalities, and each says that just one of some literals is true."""
+    """True if there are equalities, and each says that just one of some literals is true."""
     if len(text) > _LONG:
         return False
     found = [_EQUALITY.match(statement) for statement in _COMMENT.sub(b"", text).split(b";")]

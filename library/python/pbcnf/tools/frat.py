@@ -20,7 +20,7 @@ _OFTEN = 1000
 
 
 def is_frat(text: IO[bytes]) -> bool:
-    """Whether a text begins as FRAT does, with a clause of the CNF."""
+    """True if a text begins as FRAT does, with a clause of the CNF."""
     begin = text.read(2)
     text.seek(0)
     return begin == b"o "

@@ -14,7 +14,7 @@ _TOKEN = re.compile(rb">=|<=|[;=<>]|[^ \t\r\n;=<>:]*:|[^ \t\r\n;=<>:]+")
 _INTEGER = re.compile(rb"[+-]?[0-9]+\Z")
 _LITERAL = re.compile(rb"~?(?!x0+\Z)[A-Za-z_][A-Za-z0-9_\[\]{}^-]*\Z")
 _RELATIONS = (b">=", b"=", b"<=")
-# What may stand after a token of each kind.
+# What may follow a token of each kind.
 _TERM, _FACTOR, _FURTHER, _RIGHT, _END = "term", "factor", "further", "right", "end"
 
 
@@ -77,7 +77,7 @@ def offset(text: bytes, line: int, column: int) -> int:
 
 
 def is_literal(word: bytes) -> bool:
-    """Whether a word is a literal, by its spelling."""
+    """True if a word is a literal, by its spelling."""
     return _LITERAL.match(word) is not None
 
 
@@ -94,7 +94,7 @@ def end_of_piece(text: bytes, at: int, is_objective: bool) -> Optional[int]:
 
 
 def _step(state: str, word: bytes, is_objective: bool) -> Optional[str]:
-    """What may stand after a word: the empty word after the last one, and none where the word itself may not stand there."""
+    """What may follow a word: the empty word after the last one, and none if the word itself may not be there."""
     if state in (_TERM, _FURTHER) and _INTEGER.match(word):
         return _FACTOR
     if state in (_FACTOR, _FURTHER) and _LITERAL.match(word):

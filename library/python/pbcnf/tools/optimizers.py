@@ -27,7 +27,7 @@ class Descent:
     def __init__(self, running: Running) -> None:
         self.running = running
         self.has_ended = False
-        """Whether it says that nothing is better."""
+        """True if it says that nothing is better."""
         self._lines = b""
 
     @property

@@ -49,7 +49,7 @@ class Told(Protocol):
 
 
 class Question:
-    """Whether there is a solution of at most a value, which a solver is about to answer, or some beside one another, the first of whom
+    """True if there is a solution of at most a value, which a solver is about to answer, or some beside one another, the first of whom
     has to."""
 
     def __init__(self, bound: Optional[int], is_limited: bool, options: List[str], attempts: List[Attempt]) -> None:
@@ -83,7 +83,7 @@ class Oracle:
         # Those of the last CNF.
         self._clauses = 0
         self._refused: Optional[Question] = None
-        # Whether the search over the constraints is asked too, and the derivation that it wrote.
+        # That the search over the constraints is asked too, and the derivation that it wrote.
         self._learns = True
         self._learned = ""
 

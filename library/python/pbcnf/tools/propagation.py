@@ -118,7 +118,7 @@ class Clauses:
         self._core.put(number, self.literals[number])
 
     def is_reason(self, number: int) -> bool:
-        """Whether a literal is true because of this clause."""
+        """True if a literal is true because of this clause."""
         return any(self._true[literal] and self._reason[literal] == number for literal in self.literals[number])
 
     def reason_of(self, literal: int) -> int:
@@ -192,7 +192,7 @@ class Clauses:
     def _visit(self, group: Group, most: int) -> int:
         """Goes through the clauses of a group for so many of the literals that have not gone through them. Gives one that is false, or 0.
 
-        Most of the time goes by here. So nothing is called for a short clause, and what `assign` does is done in place.
+        Most of the time is spent here. So nothing is called for a short clause, and what `assign` does is done in place.
         """
         true, false, reason, alive, trail = self._true, self._false, self._reason, self._alive, self.trail
         wrong, done, ends = 0, group.done, group.done + most

@@ -22,12 +22,12 @@ _READY = (Reasons.LRAT, Reasons.DERIVATION)
 
 
 def takes_long(attempts: Sequence[Attempt]) -> bool:
-    """Whether it takes minutes to find hints for the reasons of a solver that has found no model, where nobody else says why."""
+    """True if it takes minutes to find hints for the reasons of a solver that has found no model, where nobody else says why."""
     return len(attempts) == 1 and is_long(attempts[0]) and _size(attempts[0]) > _VERY_LARGE
 
 
 def is_long(attempt: Attempt) -> bool:
-    """Whether its reasons are so long that it pays to start other programs beside one another."""
+    """True if its reasons are so long that it pays to start other programs beside one another."""
     return attempt.solver.reasons is Reasons.DRAT and _size(attempt) > _LONG and not shutil.which("drat-trim")
 
 

@@ -25,7 +25,7 @@ class Propagation:
         self.levels: List[int] = []
         """How much was true when each level was opened."""
         self.level = [0] * (variables + 1)
-        """By variables: the level in which it got its value, why, and where it stands in the trail."""
+        """By variables: the level in which it got its value, why, and where it is in the trail."""
         self.reason = [0] * (variables + 1)
         self.place = [0] * (variables + 1)
         self.clauses: Dict[int, List[int]] = {}

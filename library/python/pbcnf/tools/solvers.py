@@ -127,7 +127,7 @@ class Run:
 
     @property
     def gave_up(self) -> bool:
-        """Whether it came to its limit, and did not fail."""
+        """True if it came to its limit, and did not fail."""
         return self._said() is Verdict.UNKNOWN or self.running.status in (None, 0)
 
     def ended(self) -> str:

@@ -83,7 +83,7 @@ def skip(text: bytes, start: int, gaps: List[Gap], comments: List[bytes], behind
 
 
 def _multiplies(text: bytes, at: int, behind: str, is_right: bool) -> bool:
-    """Whether a `*` on the line of a number or a name is one of a product, and no comment; refuses what may be either.
+    """True if a `*` on the line of a number or a name is one of a product, and no comment; refuses what may be either.
 
     Without blanks before it, it is no comment. Else it is none where just one literal follows, and then what stands after a
     literal: a sign, a number, a relation or the end.
@@ -115,7 +115,7 @@ def relation_of(word: Word) -> bytes:
 
 
 def minus(word: Word) -> bool:
-    """Whether a sign is a minus, of ASCII or of UTF-8."""
+    """True if a sign is a minus, of ASCII or of UTF-8."""
     return word.text != b"+"
 
 

@@ -1,4 +1,4 @@
-"""The values that an objective's sum can have, in their order: bounds between two that stand beside one another ask the same."""
+"""The values that an objective's sum can have, in their order: bounds between two neighbours mean the same."""
 
 from __future__ import annotations
 

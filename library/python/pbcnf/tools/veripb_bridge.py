@@ -19,7 +19,7 @@ NOT_A_REFUTATION = 10
 
 
 def _is_empty(operations: List[Operation]) -> bool:
-    """Whether an axiom is weakened away at once. That leaves `>= 0`, since no degree of a derivation is below zero; VeriPB's would be."""
+    """True if an axiom is weakened away at once. That leaves `>= 0`, since no degree of a derivation is below zero; VeriPB's would be."""
     words = [operation.word for operation in operations]
     return words == ["axiom", "w"] and abs(operations[0].number) == operations[1].number
 

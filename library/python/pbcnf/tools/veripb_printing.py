@@ -36,7 +36,7 @@ class Proof:
         return self._derived()
 
     def clause(self, literals: List[int], hints: List[int]) -> int:
-        """A clause, each literal of which stands there once."""
+        """A clause, each literal of which occurs once."""
         return self.rup([(1, signed) for signed in dict.fromkeys(literals)], 1, hints)
 
     def red(self, terms: Terms, right: int, witness: Terms) -> int:

@@ -49,7 +49,7 @@ class Running:
         self._said = b""
 
     def listen(self) -> bool:
-        """Whether it has said more."""
+        """True if it has said more."""
         if self.output is None:
             return False
         try:
@@ -166,7 +166,7 @@ class Watch:
             self._drain()
 
     def ends_within(self, running: Running, seconds: float) -> bool:
-        """Whether a program ends in so short a time, which is waited for."""
+        """True if a program ends in so short a time, which is waited for."""
         last = time.monotonic() + seconds
         while running.child.poll() is None and time.monotonic() < last:
             self.test()

@@ -1,4 +1,4 @@
-//! The calls of pbcnf.h and their structs, as they stand there: it says what each means, and what is required of the caller. The crate `pbcnf`
+//! The calls of pbcnf.h and their structs, as they are there: it says what each means, and what is required of the caller. The crate `pbcnf`
 //! makes these calls safely.
 #![allow(missing_docs)]
 
