@@ -4,6 +4,7 @@ pub mod Paging
 pub mod Storing
 pub mod Judging
 pub mod Meaning
+pub mod RowsWithin
 pub mod Walking
 pub mod Spelling
 pub mod Columns

@@ -9,13 +9,14 @@ use Rattle.pb_base.specs.declared.limit.LimitKind.{LimitKind}
 use Rattle.pb_desk.specs.Desk.{DeskState}
 use Rattle.pb_desk.specs.LineReading.{Held, TakesAhead, FailsAhead, IsPart, nothing_held}
 use Rattle.pb_desk.specs.LineReaders.{Reader, GivesLine, IsNextLine, left_for}
-use Rattle.pb_desk.proofs.ReadLemmas.{fails_then, reads_begin}
+use Rattle.pb_desk.proofs.ReadLemmas.{fails_then, fails_weaker, reads_begin}
 use Rattle.pb_desk.proofs.EndedLines.{Passes, passes_line, passes_part}
 use Rattle.pb_desk.specs.declared.lines.LineFault.{LineFault}
 use Rattle.pb_desk.specs.declared.lines.LineFault.TheVariants as line_fault
 use Rattle.pb_dimacs.specs.CnfRows.{line_start, limit_place, fault_of_line}
 use Rattle.pb_dimacs.specs.CnfRows.CnfRow.{plain, too_long, last}
 use Rattle.pb_dimacs.specs.Cursors.{rows_left, GivesRow, StopsRow}
+use Rattle.pb_dimacs.specs.Within.{AreRowsWithin}
 use Rattle.pb_base.specs.declared.literal.Lit.{Lit}
 use Rattle.pb_dimacs.specs.CnfForms.{TakesText}
 use Rattle.pb_dimacs.specs.CnfReaders.{new_reader}
@@ -29,7 +30,8 @@ use Rattle.pb_lrat.specs.declared.refute_fault.RefuteFault.TheVariants.{Token, L
 use Rattle.pb_lrat.specs.LratStates.{LratState, started, after_line, after_lines, IsDueFault}
 use Rattle.pb_lrat.specs.LratWalk.{LratEnding, ending_of, walk_by, walk_from, lrat_walk}
 use Rattle.pb_lrat.specs.LratWalk.LratEnding.{refuted, not_refuted, refused, limited}
-use Rattle.pb_lrat.specs.Refuting.{of_lrat, of_line, Ends, TakesEnded, Refutes, RefutesLines, StopsLines, StopsRefuting}
+use Rattle.pb_lrat.specs.Refuting.{of_lrat, of_line, Ends, TakesEnded, TakesLines, Refutes, RefutesLines, StopsLines, StopsRefuting}
+use Rattle.pb_lrat.proofs.RowsWithin.{IsWithinIf, line_within, bytes_within}
 
 -- what is left ends the same
 abbrev pub EndsSame : LratState → Reader → LratState → Reader → List ℕ → List ℕ → Type 0
@@ -42,13 +44,20 @@ NextRow old new text rest = rows_left old text ≡ plain new.number new.line ∷
 abbrev pub AllTaken : LratState → List (List ℕ) → Type 0
 AllTaken s lines = IsOk (after_lines s lines)
 
+-- so they are up to here, if those behind are; and none is too long, if none behind is
+abbrev pub TakesOn : LratState → Reader → LratState → Reader → List ℕ → List ℕ → Type 0
+TakesOn s old t new text rest = Passes (AllTaken s) (AllTaken t) text rest × IsWithinIf old new text rest
+
 -- one line more is taken
-pub passes_on : (s t u : LratState) (old mid new : Reader) (a b c : DeskState) (line : List ℕ) → mid.slot ≡ old.slot → line ≡ new.line → after_line t line ≡ Ok u → TakesAhead old.slot old.ahead mid.ahead a b (Passes (AllTaken s) (AllTaken t)) → GivesLine true mid new b c
-    → TakesAhead old.slot old.ahead new.ahead a c (Passes (AllTaken s) (AllTaken u))
+pub passes_on : (s t u : LratState) (old mid new : Reader) (a b c : DeskState) (line : List ℕ) → mid.slot ≡ old.slot → line ≡ new.line → after_line t line ≡ Ok u → TakesAhead old.slot old.ahead mid.ahead a b (TakesOn s old t mid) → GivesLine true mid new b c
+    → TakesAhead old.slot old.ahead new.ahead a c (TakesOn s old u new)
 passes_on s t u old mid new a b c line slot is takes first more =
-    reads_on old mid new a b c (Passes (AllTaken s) (AllTaken t)) (IsNextLine mid new) (Passes (AllTaken s) (AllTaken u)) slot
-    (λ text middle rest p q. passes_line (AllTaken s) (AllTaken t) (AllTaken u) new.line text middle rest q.begins
-    (λ lines h. subst (λ (r : Result LratState LratFault). IsOk (and_then (λ v. after_lines v lines) r)) (sym (ap (after_line t) (sym is) ∙ takes)) h) refl p) first more.3
+    reads_on old mid new a b c (TakesOn s old t mid) (IsNextLine mid new) (TakesOn s old u new) slot
+    (λ text middle rest p q. (
+      passes_line (AllTaken s) (AllTaken t) (AllTaken u) new.line text middle rest q.begins
+          (λ lines h. subst (λ (r : Result LratState LratFault). IsOk (and_then (λ v. after_lines v lines) r)) (sym (ap (after_line t) (sym is) ∙ takes)) h) refl p.0,
+      λ within. p.1 (line_within mid new middle rest more.0.limits more.1 q within),
+    )) first more.3
 
 -- a line that is taken
 pub line_taken : (s t u : LratState) (old mid new : Reader) (a b c : DeskState) (line : List ℕ) → mid.slot ≡ old.slot → line ≡ new.line → after_line t line ≡ Ok u → TakesAhead old.slot old.ahead mid.ahead a b (EndsSame s old t mid) → GivesRow true mid new b c
@@ -85,10 +94,11 @@ line_stopped f s t old mid new a b c line number slot is at due first more = by_
         reads_on old mid new a b c (EndsSame s old t mid) (NextRow mid new) (λ text rest. Unit {0}) slot (λ text middle rest p q. tt) first more
 
 -- a line that was not read
-pub row_missed : (fault : LineFault) (s t : LratState) (old mid new : Reader) (a b c : DeskState) → mid.slot ≡ old.slot → TakesAhead old.slot old.ahead mid.ahead a b (EndsSame s old t mid) → TakesAhead old.slot old.ahead mid.ahead a b (Passes (AllTaken s) (AllTaken t)) → StopsRow (fault_of_line fault) mid new b c
+pub row_missed : (fault : LineFault) (s t : LratState) (old mid new : Reader) (a b c : DeskState) → mid.slot ≡ old.slot → TakesAhead old.slot old.ahead mid.ahead a b (EndsSame s old t mid) → TakesAhead old.slot old.ahead mid.ahead a b (TakesOn s old t mid) → StopsRow (fault_of_line fault) mid new b c
     → StopsLines (of_line fault) s old new a c
 row_missed line_fault.Failed s t old mid new a b c slot first passes stops =
-    fails_then old.slot old.ahead mid.ahead a b c (Passes (AllTaken s) (AllTaken t)) (IsPart (left_for mid)) (TakesEnded s) (λ bytes part p q. passes_part (AllTaken s) (AllTaken t) bytes part [] q.0 refl (p [])) passes
+    fails_then old.slot old.ahead mid.ahead a b c (TakesOn s old t mid) (IsPart (left_for mid)) (TakesLines s old)
+    (λ bytes part p q. (passes_part (AllTaken s) (AllTaken t) bytes part [] q.0 refl (p []).0, bytes_within old mid bytes part (p []).1 q)) passes
     (subst (λ (n : ℕ). FailsAhead n mid.ahead b c (IsPart (left_for mid))) slot stops)
 row_missed line_fault.NoMemory s t old mid new a b c slot first passes stops =
     reads_on old mid new a b c (EndsSame s old t mid) (λ text rest. Unit {0}) (λ text rest. Unit {0}) slot (λ text middle rest p q. tt) first stops
@@ -115,7 +125,8 @@ from_start slot vars clauses ahead a b ending reads =
     (λ text rest p. ap (walk_from (started vars clauses)) (sym (start_rows slot text)) ∙ p) reads
 
 stops_at_start : (f : RefuteFault) (slot vars : ℕ) (clauses : List (List Lit)) (new : Reader) (a b : DeskState) → StopsLines f (started vars clauses) (new_reader slot).lines new a b → StopsRefuting vars clauses slot a b f
-stops_at_start Failed slot vars clauses new a b stops = stops
+stops_at_start Failed slot vars clauses new a b stops =
+    fails_weaker slot nothing_held a b (TakesLines (started vars clauses) (new_reader slot).lines) (TakesEnded (started vars clauses)) (λ bytes h. record { taken = h.0; within = subst AreRowsWithin (start_rows slot bytes) h.1 }) stops
 stops_at_start NoMemory slot vars clauses new a b stops = takes_text slot new.ahead a b (λ text rest. Unit {0}) (λ text. Unit {0}) (λ text rest p. p) stops
 stops_at_start (Token place e) slot vars clauses new a b stops = from_start slot vars clauses new.ahead a b (refused place e) stops
 stops_at_start (Limit place which) slot vars clauses new a b stops = from_start slot vars clauses new.ahead a b (limited place which) stops

@@ -8,8 +8,9 @@ use Rattle.pb_desk.specs.LineReaders.{Reader}
 use Rattle.pb_desk.specs.declared.lines.LineFault.{LineFault}
 use Rattle.pb_desk.specs.declared.lines.LineFault.TheVariants as line_fault
 use Rattle.pb_dimacs.specs.CnfForms.{TakesText}
-use Rattle.pb_dimacs.specs.CnfRows.{line_start, limit_place}
+use Rattle.pb_dimacs.specs.CnfRows.{rows_of, line_start, limit_place}
 use Rattle.pb_dimacs.specs.Cursors.{rows_left}
+use Rattle.pb_dimacs.specs.Within.{AreRowsWithin}
 use Rattle.pb_lrat.specs.declared.fault.LratFault.{LratFault}
 use Rattle.pb_lrat.specs.declared.fault.LratFault.TheVariants as fault
 use Rattle.pb_lrat.specs.declared.refute_fault.RefuteFault.{RefuteFault}
@@ -35,11 +36,12 @@ of_line line_fault.NoMemory = NoMemory
 abbrev pub Refutes : ℕ → List (List Lit) → ℕ → DeskState → DeskState → Type 0
 Refutes vars clauses slot old new = TakesText slot (λ text. lrat_walk vars clauses text ≡ refuted) old new
 
--- the lines that LF ends in these bytes are all taken
-abbrev pub TakesEnded : LratState → List ℕ → Type 0
-TakesEnded s bytes = IsOk (after_lines s (ended_lines bytes))
+-- The lines that LF ends in these bytes are all taken, and no line is too long, not even a last one that LF does not end yet.
+pub record TakesEnded (s : LratState) (bytes : List ℕ) : Type 0 where
+  pub taken : IsOk (after_lines s (ended_lines bytes))
+  pub within : AreRowsWithin (rows_of bytes)
 
--- why it is none: a read failed, before which no line was there that is not taken; memory was wanting; or the text ends so
+-- why it is none: a read failed, before which no line was there that is not taken or too long; memory was wanting; or the text ends so
 abbrev pub StopsRefuting : ℕ → List (List Lit) → ℕ → DeskState → DeskState → RefuteFault → Type 0
 StopsRefuting vars clauses slot old new Failed = FailsAhead slot nothing_held old new (TakesEnded (started vars clauses))
 StopsRefuting vars clauses slot old new NoMemory = TakesText slot (λ text. Unit {0}) old new
@@ -55,8 +57,11 @@ Ends s old ending text rest = walk_from s (rows_left old text) ≡ ending
 abbrev pub RefutesLines : LratState → Reader → Reader → DeskState → DeskState → Type 0
 RefutesLines s old new a b = TakesAhead old.slot old.ahead new.ahead a b (Ends s old refuted)
 
+abbrev pub TakesLines : LratState → Reader → List ℕ → Type 0
+TakesLines s old bytes = IsOk (after_lines s (ended_lines bytes)) × AreRowsWithin (rows_left old bytes)
+
 abbrev pub StopsLines : RefuteFault → LratState → Reader → Reader → DeskState → DeskState → Type 0
-StopsLines Failed s old new a b = FailsAhead old.slot old.ahead a b (TakesEnded s)
+StopsLines Failed s old new a b = FailsAhead old.slot old.ahead a b (TakesLines s old)
 StopsLines NoMemory s old new a b = TakesAhead old.slot old.ahead new.ahead a b (λ text rest. Unit {0})
 StopsLines (Token place e) s old new a b = TakesAhead old.slot old.ahead new.ahead a b (Ends s old (refused place e))
 StopsLines (Limit place which) s old new a b = TakesAhead old.slot old.ahead new.ahead a b (Ends s old (limited place which))

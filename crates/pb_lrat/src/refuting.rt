@@ -69,7 +69,8 @@ pub fn refute<D: Desk>(
     // On a visible desk `Ok` means that the rest of the slot's text refutes the clauses.
     ensures refuted { OnOk result (Refutes vars clauses slot (D.state desk.old) (D.state desk.new)) }
     // On a visible desk a fault is the text's first, with its place, or the first denied line, or `NoMemory`. A failed read is answered
-    // only if the checker accepts every complete line read before it. The end is met at most once.
+    // only if the checker accepts every complete line read before it, and no line, even an incomplete last one, is too long. The end is met
+    // at most once.
     ensures stopped { IfErr result (StopsRefuting vars clauses slot (D.state desk.old) (D.state desk.new)) }
     // On a steady desk no read fails.
     ensures steady { IsSteady (D.state desk.old) → result ≢ Err RefuteFault.Failed }

@@ -7,9 +7,9 @@ use Rattle.pb_lrat.specs.declared.refute_fault.RefuteFault.{RefuteFault}
 use Rattle.pb_lrat.specs.declared.denied.LratDenied.TheVariants.{NoEmptyClause}
 use Rattle.pb_lrat.specs.LratWalk.LratEnding.{refuted, not_refuted}
 use Rattle.pb_lrat.specs.Refuting.{StopsLines}
-use Rattle.pb_desk.proofs.EndedLines.{Passes, passes_begin}
+use Rattle.pb_desk.proofs.EndedLines.{passes_begin}
 use Rattle.pb_desk.proofs.ReadLemmas.{reads_begin}
-use Rattle.pb_lrat.proofs.Walking.{AllTaken, EndsSame, line_taken, line_stopped, passes_on, row_missed, text_ended}
+use Rattle.pb_lrat.proofs.Walking.{AllTaken, EndsSame, TakesOn, line_taken, line_stopped, passes_on, row_missed, text_ended}
 use Rattle.pb_lrat.proofs.refuting.take_lines.Goals as goal
 
 pub rows-init : goal.rows-init
@@ -18,7 +18,7 @@ rows-init g c =
     record {
       goes_on = record { slot = refl; limits = refl; fine = c.requires.fine };
       reads = reads_begin c.args.lines.now.slot c.args.lines.now.ahead a (EndsSame c.args.checker.now c.args.lines.now c.args.checker.now c.args.lines.now) c.requires.knows (λ text. refl);
-      passes = reads_begin c.args.lines.now.slot c.args.lines.now.ahead a (Passes (AllTaken c.args.checker.now) (AllTaken c.args.checker.now)) c.requires.knows (λ text. passes_begin (AllTaken c.args.checker.now) text);
+      passes = reads_begin c.args.lines.now.slot c.args.lines.now.ahead a (TakesOn c.args.checker.now c.args.lines.now c.args.checker.now c.args.lines.now) c.requires.knows (λ text. (passes_begin (AllTaken c.args.checker.now) text, λ within. within));
     }
 
 pub returns-in-Err-clause-stopped : goal.returns-in-Err-clause-stopped
