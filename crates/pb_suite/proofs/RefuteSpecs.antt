@@ -123,7 +123,7 @@ module _ (w : RefuteWords) (line : List ℕ) (Known : Shelf → Type 0) (o : Com
         ))
         (subst (λ (v : View). IfSome v.told (λ t. o.leaves_open t.shelf (taken_in v t) b.ended)) (sym fails.view)
         (told_more a (λ t. AcceptedIn t.shelf) (λ t. o.leaves_open t.shelf (taken_in a.view t) b.ended)
-        (λ t is. r.leaves t.shelf (taken_in a.view t) b.ended is.1 (inr (vars, clauses, is.0, subst (λ (x : Option (List ℕ)). TakesEnded (started vars clauses) (unwrap_or x [])) (sym (taken-closed a.view t 3 w.lrat free)) refl))) accepted_known))
+        (λ t is. r.leaves t.shelf (taken_in a.view t) b.ended is.1 (inr (vars, clauses, is.0, subst (λ (x : Option (List ℕ)). TakesEnded (started vars clauses) (unwrap_or x [])) (sym (taken-closed a.view t 3 w.lrat free)) (record { taken = refl; within = tt })))) accepted_known))
 
     module _ (b d : DeskState) (kept : IsTrue d.keeps) (reached : Reads (opened 3 w.lrat) a b) (found : IfTold a (λ t. IsSome (t.shelf w.lrat))) where
       open_goes : Goes (length o.texts) nothing a b

@@ -42,7 +42,7 @@ pub data StopsRefute (shelf : Shelf) (w : RefuteWords) : Outcome → Type 0 wher
   limit : (place : Option Place) (which : LimitKind) → IsFollowed shelf w (ending.limited place which) → StopsRefute shelf w (outcome.Limit (Some Lrat) which place)
   no_refutation : (line : ℕ) (why : LratDenied) → IsFollowed shelf w (ending.not_refuted line why) → StopsRefute shelf w (outcome.NotRefuted line why)
 
--- the refutation is not open yet, nor is the check's answer settled; or the derivation is accepted, and each line that LF ends in what was taken of the refutation is taken
+-- the refutation is not open yet, nor is the check's answer settled; or the derivation is accepted, and in what was taken of the refutation each line that LF ends is taken, and none is too long
 abbrev pub IsUnfollowed : Shelf → RefuteWords → Taken → Ended → Type 0
 IsUnfollowed shelf w taken ended = ((taken 3 w.lrat ≡ None) × IsUnjudged shelf w.checked taken ended) ⊎ ((vars : ℕ) × (clauses : List (List Lit)) × IsAccepted shelf w vars clauses × TakesEnded (started vars clauses) (unwrap_or (taken 3 w.lrat) []))
 
