@@ -1,7 +1,7 @@
 -- How a run ends over files, from how it does over a desk that tells what the calls show.
-use Rattle.std.proofs.Common.{◌≡◌, ◌∙◌, ◌++◌, ℕ, List, [], Option, Some, refl, sym, ap, subst}
-use Rattle.std.specs.Prelude.{true, IsTrue}
-use Rattle.std.specs.Option.{option_map, option_map_or, ForSome}
+use Rattle.std.proofs.Common.{◌≡◌, ◌∙◌, ◌++◌, ℕ, List, [], Option, Some, None, refl, sym, ap, subst}
+use Rattle.std.specs.Prelude.{true, IsSomeAnd, IsTrue}
+use Rattle.std.specs.Option.{option_map, option_map_or}
 use Rattle.std.proofs.lemmas.List.{append-nil}
 use Rattle.pb_desk.specs.View.{Made, Told}
 use Rattle.pb_desk.specs.Desk.{DeskState, IfTold, IsTold}
@@ -110,13 +110,31 @@ ends_some start files calls a b old new was is _ (asked w answer implements) =
 ends_some start files calls a b old new was is _ (usage same) = no_request (nothing_is start files calls a b old new same)
 ends_some start files calls a b old new was is _ (no_words same) = no_room (nothing_is start files calls a b old new same)
 
+-- a desk that told something still does
+still_tells : (a b : DeskState) (t : Told) → a.view.told ≡ Some t → b.view.told ≡ None → IsTrue a.keeps → IsTrue b.keeps → (answer : Outcome) → AnswersSome a b answer → ⊥
+still_tells a b t old new was is _ (asked w answer implements) =
+    let so = seen_both a b (λ x y. Implements (spec_of w) x y answer) is was implements in
+    let adds = added (spec_of w) a b answer so.answers in
+    subst (λ (o : Option Told). IsSomeAnd o (IsMore adds.0 t)) new (in_told a t (λ u. IsTold b (IsMore adds.0 u)) old adds.1.told)
+still_tells a b t old new was is _ (usage same) = let no : Some t ≡ None = sym old ∙ sym (ap (λ (desk : DeskState). desk.view.told) same) ∙ new in cc
+still_tells a b t old new was is _ (no_words same) = let no : Some t ≡ None = sym old ∙ sym (ap (λ (desk : DeskState). desk.view.told) same) ∙ new in cc
+
 -- a run, by the laws of what the desk of a system shows
 pub exits_over : (start files : Shelf) (first last : Option (List Call)) (a b : DeskState) → a.view.told ≡ option_map (told_of start) first → b.view.told ≡ option_map (told_of files) last → a.keeps ≡ option_map_or (answers_as start) first true → b.keeps ≡ option_map_or (answers_as files) last true
-    → (told now : Option (List ℕ)) (status : ℕ) → Exits a b told now status → first ≡ Some [] → ForSome last (λ calls. IsTrue (answers_as files calls) → ExitsOver files calls told now status)
-exits_over start files first last a b old new was is told now status exits begun calls kept answers = record {
-  answer = exits.answer;
-  ends = ends_some start files calls a b (old ∙ ap (option_map (told_of start)) begun) (new ∙ ap (option_map (told_of files)) kept) (was ∙ ap (λ (o : Option (List Call)). option_map_or (answers_as start) o true) begun)
-      (is ∙ ap (λ (o : Option (List Call)). option_map_or (answers_as files) o true) kept ∙ answers) exits.answer exits.answers;
-  status_is = exits.status_is;
-  line = exits.line;
-}
+    → (told now : Option (List ℕ)) (status : ℕ) → Exits a b told now status → first ≡ Some [] → IsSomeAnd last (λ calls. IsTrue (answers_as files calls) → ExitsOver files calls told now status)
+exits_over start files first last a b old new was is told now status exits begun = by_record last new is
+  where
+    shows : a.view.told ≡ Some (told_of start [])
+    shows = old ∙ ap (option_map (told_of start)) begun
+
+    kept : IsTrue a.keeps
+    kept = was ∙ ap (λ (o : Option (List Call)). option_map_or (answers_as start) o true) begun
+
+    by_record : (last : Option (List Call)) → b.view.told ≡ option_map (told_of files) last → b.keeps ≡ option_map_or (answers_as files) last true → IsSomeAnd last (λ calls. IsTrue (answers_as files calls) → ExitsOver files calls told now status)
+    by_record None new is = absurd (still_tells a b (told_of start []) shows new kept is exits.answer exits.answers)
+    by_record (Some calls) new is = λ answers. record {
+      answer = exits.answer;
+      ends = ends_some start files calls a b shows new kept (is ∙ answers) exits.answer exits.answers;
+      status_is = exits.status_is;
+      line = exits.line;
+    }

@@ -1,6 +1,5 @@
 //! A run over the system's files, as the record of the system's calls shows it.
-ghost use Rattle.std.specs.Prelude.{◌≡◌, ℕ, false, [], Some, IsTrue};
-ghost use Rattle.std.specs.Option.{ForSome};
+ghost use Rattle.std.specs.Prelude.{◌≡◌, ℕ, false, [], Some, IsSomeAnd, IsTrue};
 ghost use Rattle.std.specs.Process.{exit_status};
 ghost use Rattle.pb_desk.specs.Desk.{IsClosed};
 ghost use Rattle.pb_files.specs.Replay.{answers_as};
@@ -20,13 +19,15 @@ pub fn run_over<R: Env + AllocGlobal, S: System + Drop, E: Diagnostics>(
     diagnostics: &mut E,
 ) -> ExitCode
     requires closed { IsClosed (⟦<RealDesk<S> as Desk>⟧.state desk.old) }
-    // Over a system that keeps a record of its calls, and was asked nothing before: if each answer in the record is what the files give
-    // that are supposed, the run ends as some words are specified over these files, and what was made and printed is what the record says
-    // that the system took. If the words are done, that is said of the files: of `encode`, that the CNF which was made encodes the text.
-    ensures files { let asked = ⟦<RealDesk<S> as Asks>⟧.asked in (asked desk.old).calls ≡ Some [] → ForSome (asked desk.new).calls (λ calls. IsTrue (answers_as (asked desk.new).files calls)
+    // Over a system that keeps a record of its calls, and was asked nothing before, the record is kept. If each answer in it is what the
+    // files give that are supposed, the status and the line are those of what some words ask for, done as it is specified over these files;
+    // or of words that ask for nothing or were not to be had, and then nothing was made or printed. What was made and printed is what the
+    // record says that the system took. If the words are done, the files have what these words are for: of `encode`, the CNF encodes the
+    // text.
+    ensures files { let asked = ⟦<RealDesk<S> as Asks>⟧.asked in (asked desk.old).calls ≡ Some [] → IsSomeAnd (asked desk.new).calls (λ calls. IsTrue (answers_as (asked desk.new).files calls)
         → ExitsOver (asked desk.new).files calls (E.told diagnostics.old) (E.told diagnostics.new) (exit_status result)) }
-    // The same of every desk, telling or not: the status and the line are those of what some words ask for, done as it is specified; or
-    // of words that ask for nothing or were not to be had, and then the desk is left alone.
+    // Over every system, the status and the line are those of what some words ask for, done as it is specified; or of words that ask for
+    // nothing or were not to be had, and then the desk is left alone.
     ensures exits { let shown = ⟦<RealDesk<S> as Desk>⟧.state in Exits (shown desk.old) (shown desk.new) (E.told diagnostics.old) (E.told diagnostics.new) (exit_status result) }
     // Where the status is 0, all that was made is closed.
     ensures ended { exit_status result ≡ 0 → (slot : ℕ) → (⟦<RealDesk<S> as Desk>⟧.state desk.new).view.writing slot ≡ false }

@@ -10,6 +10,7 @@ mod equalities;
 mod maps;
 mod optima;
 mod probes;
+mod recorded;
 mod refuses;
 mod refutes;
 mod sizes;

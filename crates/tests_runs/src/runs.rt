@@ -16,8 +16,8 @@ pub struct Run {
     pub desk: MemoryDesk,
 }
 
-// The words that stand between blanks.
-fn owned_words(alloc: Global, words: &str) -> Result<Vec<String>, NoMemory> {
+/// The words that stand between blanks.
+pub fn owned_words(alloc: Global, words: &str) -> Result<Vec<String>, NoMemory> {
     let mut owned = Vec::new(alloc);
     for word in words.split(' ') {
         owned.push(word.to_string(alloc)?)?;
@@ -25,8 +25,8 @@ fn owned_words(alloc: Global, words: &str) -> Result<Vec<String>, NoMemory> {
     Ok(owned)
 }
 
-// A file of this name.
-fn named(alloc: Global, name: &str, text: &[u8]) -> Result<Named, NoMemory> {
+/// A file of this name.
+pub fn named(alloc: Global, name: &str, text: &[u8]) -> Result<Named, NoMemory> {
     Ok(Named {
         name: Text::from_string(name.to_string(alloc)?),
         bytes: Bytes::from_vec(text.to_vec(alloc)?),
@@ -48,8 +48,8 @@ fn files_of(alloc: Global, texts: &[(&str, &[u8])]) -> Result<Shelf, NoMemory> {
     Ok(files)
 }
 
-// A run, of which nothing is known but what it leaves.
-fn ended<D: Desk>(alloc: Global, words: &Vec<String>, desk: &mut D) -> Outcome
+/// A run, of which nothing is known but what it leaves.
+pub fn ended<D: Desk>(alloc: Global, words: &Vec<String>, desk: &mut D) -> Outcome
     requires { IsClosed (D.state desk.old) }
 {
     run(alloc, words, desk)
