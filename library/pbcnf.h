@@ -352,7 +352,7 @@ uint8_t pbcnf_constraint_derive(const uint64_t *coefficients, size_t coefficient
 /* The relation and the right side of a sum, whose terms are the next ones. */
 typedef struct {
   uint32_t relation;   /* PBCNF_AT_LEAST, PBCNF_AT_MOST, PBCNF_EQUAL */
-  uint32_t unused;     /* 0 */
+  int32_t condition;   /* 0; or a literal, and the constraint has to hold only if that is true. Its variable is below first */
   uint64_t terms;      /* how many terms it has */
   uint64_t right_low;  /* the right side, in two's complement of 128 bits, as two words of 64 */
   uint64_t right_high;
@@ -361,8 +361,13 @@ typedef struct {
 /* The clauses of `constraints` constraints as integers, one constraint's after another's, and their fresh variables likewise from
  * first on: what pbcnf_constraint puts, constraint after constraint, each with the first variable that is still free. coefficients,
  * literals and first are as there, `count` are all literals, and the sums report how many are each one's.
+ * A condition is one more term, its negation, whose coefficient is what the sum may lack: sum + M ~condition >= right, where M is the
+ * right side less the least value of the sum, or 0; so it is of the upper half, and an equality is put as its two halves. So unit
+ * propagation reaches from the condition all that each half forces, and the condition's negation where that half cannot hold, but for
+ * what goes to the adder. Under a condition a constraint has 2^20 - 1 terms at most, and its numbers add up to less than 2^99.
  * At PBCNF_USAGE and PBCNF_LIMIT refusal->number is the constraint to blame, from 1, and 0 where no single one is: a bad option or
- * first, counts that do not fit, more than 2^24 constraints, more variables or clauses than may be. Statuses 0, 2, 3, 5, 6.
+ * first, counts that do not fit, more than 2^24 constraints (an equality under a condition is two), more variables or clauses than
+ * may be. Statuses 0, 2, 3, 5, 6.
  *
  *      const pbcnf_sum sums[] = {pbcnf_sum_of(PBCNF_AT_LEAST, 1, 2), pbcnf_sum_of(PBCNF_AT_MOST, 1, 2)};
  *      assert(pbcnf_constraints(ones, 4, literals, 4, sums, 2, 4, &options, integers, 100, &size, &refusal) == PBCNF_DONE);

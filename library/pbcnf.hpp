@@ -374,14 +374,18 @@ inline std::string derive_constraint(const Constraint &asked, std::uint32_t firs
 /* Constraints in columns: the terms of each after those of the one before. They are made once, and can be added to. */
 class Constraints {
  public:
-  void add(const Constraint &asked) { add(asked.coefficients, asked.literals, asked.relation, asked.right); }
+  /* With a condition, a literal, the constraint has to hold only if that is true. */
+  void add(const Constraint &asked, std::int32_t condition = 0) {
+    add(asked.coefficients, asked.literals, asked.relation, asked.right, condition);
+  }
 
   /* A literal is a variable's number or its negative, and each has its coefficient. */
-  void add(const std::vector<Number> &coefficients, const std::vector<std::int32_t> &literals, Relation relation, Number right) {
+  void add(const std::vector<Number> &coefficients, const std::vector<std::int32_t> &literals, Relation relation, Number right,
+           std::int32_t condition = 0) {
     if (coefficients.size() != literals.size()) throw std::invalid_argument("each literal has one coefficient");
     for (const Number &number : coefficients) words_.insert(words_.end(), {number.low, number.high});
     literals_.insert(literals_.end(), literals.begin(), literals.end());
-    sums_.push_back({static_cast<std::uint32_t>(relation), 0, literals.size(), right.low, right.high});
+    sums_.push_back({static_cast<std::uint32_t>(relation), condition, literals.size(), right.low, right.high});
   }
 
   /* How many there are. */

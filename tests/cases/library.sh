@@ -175,6 +175,8 @@ try_programs() {
     judged ./constraints
     compile columns
     judged ./columns
+    compile conditions
+    judged ./conditions
     if makes -Wl,--wrap=malloc; then
         compile growth -Wl,--wrap=malloc,--wrap=realloc,--wrap=free
         judged ./growth

@@ -165,7 +165,7 @@ static void try_refusals(void) {
   c.sums[1].relation = 3;
   try_blamed(c, PBCNF_USAGE, 2, "pbcnf: constraint 2: a number is out of its range", 4);
   c = three();
-  c.sums[2].unused = 1;
+  c.sums[2].condition = (int32_t)c.first;
   try_blamed(c, PBCNF_USAGE, 3, "pbcnf: constraint 3: a number is out of its range", 5);
   c = three();
   c.coefficients[7] = (uint64_t)1 << 36;

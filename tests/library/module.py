@@ -16,6 +16,7 @@ import unittest
 
 import pbcnf
 from pbcnf import _native
+from pbcnf.conditions import conditioned
 
 OPB = "min: +3 rain -2 sun ;\n+2 rain +1 sun +1 x1 x2 >= 2 ;\n+1 rain +1 x1 = 1 ;\n"
 
@@ -104,6 +105,19 @@ class Encodings(unittest.TestCase):
                 text += "%s %s %d ;\n" % (" ".join("%+d %sx%d" % (c, "~" * (l < 0), abs(l)) for c, l in terms), relation, right)
             self.assertEqual(pbcnf.derive_constraints(asked, first=10, **chosen), pbcnf.derive(text, **chosen))
 
+    def test_conditions(self):
+        draws = random.Random(6)
+        for _ in range(60):
+            asked, statements = [], []
+            for _ in range(draws.randint(0, 3)):
+                terms = [(draws.randint(-4, 4), draws.choice((1, -1)) * draws.randint(1, 5)) for _ in range(draws.randint(0, 4))]
+                relation, right, condition = draws.choice((">=", "<=", "=")), draws.randint(-4, 6), draws.choice((0, 1, -1, 5))
+                asked.append((terms, relation, right, condition) if condition or draws.randint(0, 1) else (terms, relation, right))
+                for left, turned, bound in conditioned(terms, relation, right, [condition] if condition else []):
+                    statements.append("%s %s %d ;\n" % (" ".join("%+d %sx%d" % (c, "~" * (l < 0), abs(l)) for c, l in left), turned, bound))
+            text = "* #variable= 5 #constraint= %d\n%s" % (len(statements), "".join(statements))
+            self.assertEqual(list(pbcnf.constraints(asked, first=6)), list(pbcnf.encode(text)))
+
     def test_one_constraint(self):
         one = pbcnf.constraint([(1, 1), (1, -2), (1, 3)], "<=", 1, first=10)
         self.assertEqual((one.clauses, one.original, one.next_free), ([[-1, 2], [-1, -3], [2, -3]], 9, 10))
@@ -167,6 +181,9 @@ class Faults(unittest.TestCase):
                          "pbcnf: usage: the literal of term 2 of constraint 3 is 7, and not of a variable from 1 to 6")
         self.assertEqual(str(self.raised(pbcnf.Usage, pbcnf.constraints, [good, ([], "<", 1)], first=7)),
                          "pbcnf: usage: the relation of constraint 2 is '<', and not one of >=, <= and =")
+        for condition in (7, -7, 1 << 31, -(1 << 31), 1 << 200):
+            self.assertEqual(str(self.raised(pbcnf.Usage, pbcnf.constraints, [good, (*good, condition), bad], first=7)),
+                             "pbcnf: usage: the condition of constraint 2 is %d, and not of a variable from 1 to 6" % condition)
         error = self.raised(pbcnf.LimitPassed, pbcnf.constraints, [good, ([(2**101, 1)], ">=", 1), good], first=7)
         self.assertEqual((error.limit, error.constraint, error.line, str(error)), ("weight", 2, None, "pbcnf: constraint 2: limit weight"))
         self.assertEqual(pickle.loads(pickle.dumps(error)).constraint, 2)

@@ -65,7 +65,7 @@ static void try_words(void) {
     const pbcnf_sum sum = pbcnf_sum_of(PBCNF_EQUAL, numbers[i], 7);
     judge(bound.set == 1 && bound.low == low && bound.high == high, "a bound", "bound_of", (long)i);
     judge(side.relation == PBCNF_AT_MOST && side.first == 9 && side.right_low == low && side.right_high == high, "a side", "side_of", (long)i);
-    judge(sum.relation == PBCNF_EQUAL && sum.unused == 0 && sum.terms == 7 && sum.right_low == low && sum.right_high == high, "a sum", "sum_of", (long)i);
+    judge(sum.relation == PBCNF_EQUAL && sum.condition == 0 && sum.terms == 7 && sum.right_low == low && sum.right_high == high, "a sum", "sum_of", (long)i);
   }
 }
 

@@ -1,9 +1,9 @@
 -- Sums, their heads, and the statements that they give.
-use Rattle.std.proofs.Common.{◌≡◌, ◌≤◌, ◌<◌, ◌+◌, ◌-◌, ◌^◌, ◌∙◌, ◌++◌, [], ◌∷◌, ℕ, ℤ, Bool, true, false, List, Option, Some, None, ap, arith, drop, length, map, refl, subst, sym, take}
-use Rattle.std.specs.Prelude.{All, sum_by}
+use Rattle.std.proofs.Common.{◌≡◌, ◌≤◌, ◌<◌, ◌+◌, ◌-◌, ◌^◌, ◌∙◌, ◌++◌, [], ◌∷◌, ℕ, ℤ, List, Option, Some, None, ap, arith, drop, length, map, refl, subst, sym, take}
+use Rattle.std.specs.Prelude.{All}
 use Rattle.std.specs.Option.{option_map}
 use Rattle.std.proofs.lemmas.List.{length-map, length-take, map_push, take_all}
-use Rattle.std.proofs.lemmas.List.Elements.{All-nil, All-cons, All-head, All-tail, All-take, All-drop}
+use Rattle.std.proofs.lemmas.List.Elements.{All-nil, All-head, All-tail, All-take, All-drop}
 use Rattle.std.proofs.lemmas.Option.{none-some}
 use Rattle.std.proofs.lemmas.List.Sums.{sum_by-cons}
 use Rattle.pb_base.specs.declared.heads.Head.{Head}
@@ -14,8 +14,8 @@ use Rattle.pb_base.specs.Problems.{originals, IsProductWithin, IsSumWithin, IsWi
 use Rattle.pb_base.specs.Statements.{statements_in, term_count}
 use Rattle.pb_dimacs.specs.CnfReading.{literal_number}
 use Rattle.pb_columns.specs.declared.sum.PbcnfSum.{PbcnfSum}
-use Rattle.pb_columns.specs.Columns.{head_of, head_with, problem_of, relation_in, terms_asked, AreFit, AreStatementsOf, AreTermsOf, Columns}
-use Rattle.pb_columns.specs.Words.{wide}
+use Rattle.pb_columns.specs.Columns.{conditions_in, head_of, head_with, problem_of, relation_of, terms_asked, AreTermsOf, IsCondition, IsShort, IsSumUnder}
+use Rattle.pb_columns.specs.Conditions.{most_terms, AllUnder}
 
 -- ---- heads
 
@@ -25,18 +25,18 @@ terms_told (Some h) = h.terms
 
 -- a head has so many terms as its sum tells
 pub head_terms : (m : PbcnfSum) (h : Head) → head_of m ≡ Some h → h.terms ≡ m.terms
-head_terms m h is = by_cases (relation_in m) is
+head_terms m h is = by_cases (relation_of m.relation) is
   where
     by_cases : (r : Option Relation) → option_map (head_with m) r ≡ Some h → h.terms ≡ m.terms
     by_cases (Some r) same = sym (ap terms_told same)
     by_cases None same = absurd (none-some h same)
 
 -- that of a relation
-pub related : (m : PbcnfSum) (r : Relation) → relation_in m ≡ Some r → head_of m ≡ Some (head_with m r)
+pub related : (m : PbcnfSum) (r : Relation) → relation_of m.relation ≡ Some r → head_of m ≡ Some (head_with m r)
 related m r is = ap (λ (o : Option Relation). option_map (head_with m) o) is
 
 -- that of none
-pub unrelated : (m : PbcnfSum) → relation_in m ≡ None → head_of m ≡ None
+pub unrelated : (m : PbcnfSum) → relation_of m.relation ≡ None → head_of m ≡ None
 unrelated m is = ap (λ (o : Option Relation). option_map (head_with m) o) is
 
 pub next_head : (sums : List PbcnfSum) (i : ℕ) (m : PbcnfSum) (h : Head) (old new : List Head) → map Some old ≡ map head_of (take i sums) → map head_of (take (i + 1) sums) ≡ map head_of (take i sums) ++ head_of m ∷ [] → head_of m ≡ Some h → new ≡ old ++ h ∷ []
@@ -76,16 +76,6 @@ pub statements_many : (hs : List Head) (ts : List Term) → length (statements_i
 statements_many [] ts = refl
 statements_many (h ∷ hs) ts = omega (arith, statements_many hs (drop h.terms ts))
 
-sums_within : (vars : ℕ) (hs : List Head) (ts : List Term) → All (λ h. h.terms ≤ 2 ^ 20) hs → All (λ t. 1 ≤ t.lit.var) ts → All (λ t. t.lit.var ≤ vars) ts → All (λ (s : Raw). IsSumWithin vars s.terms) (statements_in hs ts)
-sums_within vars [] ts short from below = All-nil (λ (s : Raw). IsSumWithin vars s.terms)
-sums_within vars (h ∷ hs) ts short from below =
-    let few = All-head (λ (h : Head). h.terms ≤ 2 ^ 20) h hs short in
-    All-cons (λ (s : Raw). IsSumWithin vars s.terms) (record { terms = take h.terms ts; relation = h.relation; right = h.right }) (statements_in hs (drop h.terms ts)) (record {
-      vars_from = All-take (λ (t : Term). 1 ≤ t.lit.var) h.terms ts from;
-      vars_within = All-take (λ (t : Term). t.lit.var ≤ vars) h.terms ts below;
-      count = omega (arith, few, length-take h.terms ts);
-    }) (sums_within vars hs (drop h.terms ts) (All-tail (λ (h : Head). h.terms ≤ 2 ^ 20) h hs short) (All-drop (λ (t : Term). 1 ≤ t.lit.var) h.terms ts from) (All-drop (λ (t : Term). t.lit.var ≤ vars) h.terms ts below))
-
 -- they are a problem within its limits
 pub is_within : (first : ℕ) (ss : List Raw) → 1 ≤ first → first ≤ 2 ^ 31 → length ss ≤ 2 ^ 24 → All (λ s. IsSumWithin (first - 1) s.terms) ss → All (StaysBelow (2 ^ 100)) ss → IsWithinLimits (problem_of first ss)
 is_within first ss low high few sums light = record {
@@ -101,6 +91,20 @@ is_within first ss low high few sums light = record {
     vars : first - 1 ≡ originals (problem_of first ss)
     vars = omega arith
 
--- the sums of statements in columns
-pub sums_in : (words : List ℕ) (literals : List ℤ) (first : ℕ) (hs : List Head) (ts : List Term) → 1 ≤ first → All (λ h. h.terms ≤ 2 ^ 20) hs → AreTermsOf words literals first (length literals) ts → All (λ s. IsSumWithin (first - 1) s.terms) (statements_in hs ts)
-sums_in words literals first hs ts low short are = sums_within (first - 1) hs ts short are.from (λ k d l. (let h = are.below k d l in omega (arith, h, low)))
+-- the sums of statements in columns, each under its condition
+pub sums_under : (first : ℕ) (hs : List Head) (sums : List PbcnfSum) (ts : List Term) → map Some hs ≡ map head_of sums → All IsShort sums → All (λ (m : PbcnfSum). IsCondition first m.condition) sums → All (λ t. 1 ≤ t.lit.var) ts → All (λ t. t.lit.var < first) ts → AllUnder (IsSumUnder first) (conditions_in sums) (statements_in hs ts)
+sums_under first [] [] ts same short on from below = tt
+sums_under first [] (m ∷ sums) ts same short on from below = absurd (cc)
+sums_under first (h ∷ hs) [] ts same short on from below = absurd (cc)
+sums_under first (h ∷ hs) (m ∷ sums) ts same short on from below =
+    let here = head_terms m h (sym (ap first_of same)) in
+    let room : m.terms ≤ most_terms m.condition = All-head IsShort m sums short in (
+      record {
+        condition = All-head (λ (m : PbcnfSum). IsCondition first m.condition) m sums on;
+        vars_from = All-take (λ (t : Term). 1 ≤ t.lit.var) h.terms ts from;
+        vars_below = All-take (λ (t : Term). t.lit.var < first) h.terms ts below;
+        short = omega (arith, here, room, length-take h.terms ts);
+      },
+      sums_under first hs sums (drop h.terms ts) (ap rest_of same) (All-tail IsShort m sums short) (All-tail (λ (m : PbcnfSum). IsCondition first m.condition) m sums on)
+          (All-drop (λ (t : Term). 1 ≤ t.lit.var) h.terms ts from) (All-drop (λ (t : Term). t.lit.var < first) h.terms ts below),
+    )

@@ -1,3 +1,6 @@
 mod Standing
 mod Columned
 mod TermLists
+pub mod Conditioned
+mod Reaches
+mod Limits

@@ -1,5 +1,5 @@
 -- Items of lists and their places.
-use Rattle.std.proofs.Common.{◌≡◌, ◌<◌, ◌+◌, ◌∙◌, ◌++◌, [], ◌∷◌, ℕ, suc, List, ap, arith, drop, get_or, length, map, sym, take}
+use Rattle.std.proofs.Common.{◌≡◌, ◌<◌, ◌+◌, ◌∙◌, ◌++◌, [], ◌∷◌, ℕ, suc, List, ap, arith, drop, get_or, length, map, pos, sym, take}
 use Rattle.std.proofs.Math.Seq.{drop-cons}
 use Rattle.std.proofs.lemmas.List.{length-take, map_push, take-append-drop, take_more}
 use Rattle.pb_columns.specs.declared.sum.PbcnfSum.{PbcnfSum}
@@ -7,7 +7,7 @@ use Rattle.pb_columns.specs.Columns.{StandsAt}
 
 -- what stands behind the end of a column
 abbrev pub no_sum : PbcnfSum
-no_sum = record { relation = 0; unused = 0; terms = 0; right_low = 0; right_high = 0 }
+no_sum = record { relation = 0; condition = pos 0; terms = 0; right_low = 0; right_high = 0 }
 
 abbrev pub stands_here : {X : Type 0} (xs : List X) (i : ℕ) (d : X) → i < length xs → StandsAt xs (i + 1) (get_or xs i d)
 stands_here xs i d within = record {

@@ -1,3 +1,4 @@
 pub mod Words
+pub mod Conditions
 pub mod Columns
 pub mod examples

@@ -1,1 +1,2 @@
 pub mod ColumnExamples
+pub mod ConditionExamples

@@ -1,11 +1,11 @@
 //! What stands beside the terms of sums.
 ghost use Rattle.std.specs.Prelude.{◌≡◌, ◌≤◌, ◌∷◌, ◌++◌, [], ◌^◌, All, IfErr, IfOk, OnOk, Some, map};
-ghost use Rattle.pb_columns.specs.Columns.{head_of, head_with, HasMoreHead, StopsHeads, StopsSum};
+ghost use Rattle.pb_columns.specs.Columns.{head_of, head_with, HasMoreHead, IsShort, StopsHeads, StopsSum};
 
 use crate::fault::ColumnFault;
 use crate::number::wide;
-use crate::sum::{PbcnfSum, relation_in};
-use pb_base::{Head, Heads, LimitKind, MAX_TERMS, NoMemory, Relation};
+use crate::sum::{PbcnfSum, most_terms, relation_of};
+use pb_base::{Head, Heads, LimitKind, NoMemory, Relation};
 use std::alloc::Global;
 
 // What the statement of a sum has beside its terms.
@@ -25,10 +25,10 @@ fn push_head(heads: &mut Heads, sum: &PbcnfSum, at: u64) -> Result<(), ColumnFau
     ensures ok { OnOk result (HasMoreHead sum.now heads.old heads.new) }
     ensures stopped { IfErr result (StopsSum sum.now at) }
 {
-    let Some(relation) = relation_in(sum) else {
+    let Some(relation) = relation_of(sum.relation) else {
         return Err(ColumnFault::Unfit { at });
     };
-    if sum.terms > MAX_TERMS as u64 {
+    if sum.terms > most_terms(sum.condition) {
         return Err(ColumnFault::Limit {
             which: LimitKind::Terms,
             at,
@@ -43,7 +43,7 @@ fn push_head(heads: &mut Heads, sum: &PbcnfSum, at: u64) -> Result<(), ColumnFau
 /// The heads of sums.
 pub(crate) fn heads_of(alloc: Global, sums: &[PbcnfSum]) -> Result<Heads, ColumnFault>
     ensures heads { IfOk result (λ heads. map Some heads ≡ map head_of sums.now) }
-    ensures short { IfOk result (λ heads. All (λ h. h.terms ≤ 2 ^ 20) heads) }
+    ensures short { IfOk result (λ heads. All IsShort sums.now) }
     ensures stopped { IfErr result (StopsHeads sums.now) }
 {
     let mut heads = Heads::new(alloc);

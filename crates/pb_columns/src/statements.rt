@@ -1,11 +1,13 @@
 //! The statements of columns.
 ghost use Rattle.std.specs.Prelude.{◌≡◌, ◌≤◌, ◌-◌, ◌↔◌, All, IfErr, IfOk, IsTrue, length};
-ghost use Rattle.pb_base.specs.Problems.{IsSumWithin, IsWithinLimits};
-ghost use Rattle.pb_columns.specs.Columns.{problem_of, columns_at, AreFit, AreStatementsOf, StopsColumns};
+ghost use Rattle.pb_base.specs.Problems.{IsWithinLimits};
+ghost use Rattle.pb_columns.specs.Conditions.{AllUnder};
+ghost use Rattle.pb_columns.specs.Columns.{conditions_in, problem_of, columns_at, AreFit, ArePosedOf, AreStatementsOf, IsCondition, IsLight, IsSumUnder, StopsColumns};
 
 use crate::fault::ColumnFault;
 use crate::heads::heads_of;
 use crate::places::{first_outside, sum_at, terms_asked};
+use crate::posing::{first_stray, posed};
 use crate::sum::PbcnfSum;
 use crate::terms::{has_words, terms_of};
 use crate::weights::first_heavy;
@@ -37,11 +39,15 @@ fn is_fit(columns: &Columns<'_>) -> bool
 fn joined(alloc: Global, columns: &Columns<'_>) -> Result<Statements, ColumnFault>
     requires { AreFit (columns_at columns.now.words.now columns.now.literals.now columns.now.sums.now columns.now.first) }
     ensures given { IfOk result (AreStatementsOf (columns_at columns.now.words.now columns.now.literals.now columns.now.sums.now columns.now.first)) }
-    ensures sums { IfOk result (λ ss. All (λ s. IsSumWithin (columns.now.first - 1) s.terms) ss) }
+    ensures sums { IfOk result (AllUnder (IsSumUnder columns.now.first) (conditions_in columns.now.sums.now)) }
+    ensures conditions { IfOk result (λ ss. All (λ m. IsCondition columns.now.first m.condition) columns.now.sums.now) }
     ensures many { IfOk result (λ ss. length ss ≡ length columns.now.sums.now) }
     ensures stopped { IfErr result (StopsColumns (columns_at columns.now.words.now columns.now.literals.now columns.now.sums.now columns.now.first)) }
 {
     let heads = heads_of(alloc, columns.sums)?;
+    if let Some(at) = first_stray(columns.sums, columns.first) {
+        return Err(ColumnFault::Unfit { at });
+    }
     if let Some(place) = first_outside(columns.literals, columns.first) {
         return Err(ColumnFault::Unfit {
             at: sum_at(columns.sums, place),
@@ -53,10 +59,37 @@ fn joined(alloc: Global, columns: &Columns<'_>) -> Result<Statements, ColumnFaul
     }
 }
 
-/// The statements of columns.
+// The statements under their conditions, if there are not too many.
+fn encoded(
+    alloc: Global,
+    columns: &Columns<'_>,
+    statements: Statements,
+) -> Result<Statements, ColumnFault>
+    requires given { AreStatementsOf (columns_at columns.now.words.now columns.now.literals.now columns.now.sums.now columns.now.first) statements }
+    requires sums { AllUnder (IsSumUnder columns.now.first) (conditions_in columns.now.sums.now) statements }
+    requires conditions { All (λ m. IsCondition columns.now.first m.condition) columns.now.sums.now }
+    requires many { length statements ≡ length columns.now.sums.now }
+    requires light { AllUnder IsLight (conditions_in columns.now.sums.now) statements }
+    ensures given { IfOk result (ArePosedOf (columns_at columns.now.words.now columns.now.literals.now columns.now.sums.now columns.now.first)) }
+    ensures within { IfOk result (λ ss. IsWithinLimits (problem_of columns.now.first ss)) }
+    ensures stopped { IfErr result (StopsColumns (columns_at columns.now.words.now columns.now.literals.now columns.now.sums.now columns.now.first)) }
+{
+    let Ok(posed) = posed(alloc, columns.sums, statements) else {
+        return Err(ColumnFault::NoMemory);
+    };
+    if posed.len() > MAX_STATEMENTS {
+        return Err(ColumnFault::Limit {
+            which: LimitKind::Statements,
+            at: 0,
+        });
+    }
+    Ok(posed)
+}
+
+/// The statements that are encoded of columns.
 pub fn statements_of(alloc: Global, columns: &Columns<'_>) -> Result<Statements, ColumnFault>
-    // The statements are those of the sums, each with its terms, its relation and its right side.
-    ensures given { IfOk result (AreStatementsOf (columns_at columns.now.words.now columns.now.literals.now columns.now.sums.now columns.now.first)) }
+    // The statements are those of the sums, each with its terms, its relation and its right side, under its condition.
+    ensures given { IfOk result (ArePosedOf (columns_at columns.now.words.now columns.now.literals.now columns.now.sums.now columns.now.first)) }
     // Their problem is within the limits of problems.
     ensures within { IfOk result (λ ss. IsWithinLimits (problem_of columns.now.first ss)) }
     // Else there is the cause that is told, of the sum that is told.
@@ -72,8 +105,8 @@ pub fn statements_of(alloc: Global, columns: &Columns<'_>) -> Result<Statements,
         });
     }
     let statements = joined(alloc, columns)?;
-    match first_heavy(&statements) {
-        None => Ok(statements),
+    match first_heavy(columns.sums, &statements) {
+        None => encoded(alloc, columns, statements),
         Some(at) => Err(ColumnFault::Limit {
             which: LimitKind::Weight,
             at,

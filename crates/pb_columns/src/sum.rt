@@ -1,6 +1,7 @@
 //! What stands beside the terms of a sum.
-ghost use Rattle.std.specs.Prelude.{◌≡◌};
-ghost use Rattle.pb_columns.specs.Columns.{relation_in, relation_of};
+ghost use Rattle.std.specs.Prelude.{◌≡◌, ◌≤◌, ◌^◌};
+ghost use Rattle.pb_columns.specs.Columns.{relation_of};
+ghost use Rattle.pb_columns.specs.Conditions.{most_terms, weight_limit};
 
 use pb_base::Relation;
 
@@ -10,8 +11,8 @@ use pb_base::Relation;
 pub struct PbcnfSum {
     /// 0 at least, 1 at most, 2 equal.
     pub relation: u32,
-    /// 0.
-    pub unused: u32,
+    /// 0, or the number of the literal under which alone the constraint is asked.
+    pub condition: i32,
     /// How many terms it has.
     pub terms: u64,
     /// The right side in two's complement of 128 bits.
@@ -19,7 +20,8 @@ pub struct PbcnfSum {
     pub right_high: u64,
 }
 
-fn relation_of(word: u32) -> Option<Relation>
+/// The relation of a number, if it has one.
+pub(crate) fn relation_of(word: u32) -> Option<Relation>
     ensures { result ≡ relation_of word }
 {
     match word {
@@ -30,12 +32,18 @@ fn relation_of(word: u32) -> Option<Relation>
     }
 }
 
-/// The relation of a sum, if its numbers are in their ranges.
-pub(crate) fn relation_in(sum: &PbcnfSum) -> Option<Relation>
-    ensures { result ≡ relation_in sum.now }
+/// The most terms of a sum under the condition of this number.
+pub(crate) fn most_terms(condition: i32) -> u64
+    ensures value { result ≡ most_terms condition }
+    ensures few { result ≤ 2 ^ 20 }
 {
-    if sum.unused != 0 {
-        return None;
-    }
-    relation_of(sum.relation)
+    if condition == 0 { 0x10_0000 } else { 0xf_ffff }
+}
+
+/// What the numbers of a statement have to stay below under the condition of this number.
+pub(crate) fn weight_limit(condition: i32) -> u128
+    ensures value { result ≡ weight_limit condition }
+    ensures small { result ≤ 2 ^ 100 }
+{
+    if condition == 0 { 1 << 100 } else { 1 << 99 }
 }

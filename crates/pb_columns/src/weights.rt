@@ -1,11 +1,12 @@
 //! Whether the numbers of statements are too great.
-ghost use Rattle.std.specs.Prelude.{◌≡◌, ◌≤◌, ◌+◌, ◌-◌, ◌^◌, ◌↔◌, IsTrue, length, min};
+ghost use Rattle.std.specs.Prelude.{◌≡◌, ◌+◌, ◌-◌, ◌^◌, ◌↔◌, IsTrue, length, min};
 ghost use Rattle.std.specs.Int.RustNames.{unsigned_abs};
-ghost use Rattle.pb_base.specs.Problems.{magnitude, StaysBelow};
+ghost use Rattle.pb_base.specs.Problems.{magnitude};
 ghost use Rattle.pb_base.specs.Statements.{raw_of};
-ghost use Rattle.pb_columns.specs.Columns.{FindsHeavy};
+ghost use Rattle.pb_columns.specs.Columns.{FindsHeavy, IsLight};
 
-use pb_base::{Statement, Statements, TermsLeft, WEIGHT_BITS};
+use crate::sum::{PbcnfSum, weight_limit};
+use pb_base::{Statement, Statements, TermsLeft};
 
 // The absolute values of the numbers of a statement, added up, or the greatest number where that is less.
 fn size(terms: TermsLeft<'_>, right: i128) -> u128
@@ -18,22 +19,22 @@ fn size(terms: TermsLeft<'_>, right: i128) -> u128
     sum
 }
 
-// Whether the numbers of a statement add up to less than the limit.
-fn is_light(statement: Statement<'_>) -> bool
-    ensures { IsTrue result ↔ StaysBelow (2 ^ 100) (raw_of statement.entry) }
+// Whether the numbers of a statement add up to less than the limit under the condition of a number.
+fn is_light(statement: Statement<'_>, condition: i32) -> bool
+    ensures { IsTrue result ↔ IsLight condition (raw_of statement.entry) }
 {
-    size(statement.terms, statement.right) < 1 << WEIGHT_BITS
+    size(statement.terms, statement.right) < weight_limit(condition)
 }
 
 /// The place, from 1, of the first statement whose numbers add up to the limit or more.
-pub(crate) fn first_heavy(statements: &Statements) -> Option<u64>
-    requires few { length statements.now ≤ 2 ^ 24 }
-    ensures { FindsHeavy statements.now result }
+pub(crate) fn first_heavy(sums: &[PbcnfSum], statements: &Statements) -> Option<u64>
+    requires { length statements.now ≡ length sums.now }
+    ensures { FindsHeavy sums.now statements.now result }
 {
-    let mut place = 1;
+    let mut place: usize = 0;
     for statement in statements.iter() {
-        if !is_light(statement) {
-            return Some(place);
+        if !is_light(statement, sums[place].condition) {
+            return Some(place as u64 + 1);
         }
         place += 1;
     }

@@ -1,21 +1,26 @@
 -- What is put of the problem of statements in columns, as what is put of the columns, and why nothing is.
-use Rattle.std.proofs.Common.{◌≡◌, ◌≤◌, ◌∙◌, ℕ, ℤ, List, Some, ap, arith, flat_map, length, refl, subst, sym}
+use Rattle.std.proofs.Common.{◌≡◌, ◌≤◌, ◌-◌, ◌∙◌, ℕ, ℤ, Bool, List, Some, ap, arith, flat_map, length, refl, subst, sym, take}
+use Rattle.std.specs.Prelude.{◌↔◌, All}
 use Rattle.pb_base.specs.declared.literal.Lit.{Lit}
 use Rattle.pb_base.specs.declared.options.Options.{Options}
 use Rattle.pb_base.specs.declared.problem.Problem.{Problem}
 use Rattle.pb_base.specs.declared.problem.Raw.{Raw}
-use Rattle.pb_base.specs.Problems.{IsWithinLimits}
+use Rattle.pb_base.specs.Literals.{assigned_by}
+use Rattle.pb_base.specs.Problems.{IsWithinLimits, Satisfies}
 use Rattle.pb_check.specs.Walk.{Accepts}
 use Rattle.pb_check.proofs.Writing.{written_runs_are_accepted}
 use Rattle.pb_columns.specs.declared.fault.ColumnFault.{ColumnFault}
 use Rattle.pb_columns.specs.declared.fault.ColumnFault.TheVariants as fault
-use Rattle.pb_columns.specs.Columns.{problem_of, AreStatementsOf, Columns, StopsColumns}
+use Rattle.pb_columns.specs.Columns.{conditions_in, problem_of, ArePosedOf, Columns, StopsColumns}
+use Rattle.pb_columns.specs.Conditions.{HoldUnder}
+use Rattle.pb_columns.proofs.Conditioned.{asked_all}
 use Rattle.pb_dimacs.specs.CnfReading.{clause_numbers}
 use Rattle.pb_dimacs.specs.CnfText.{cnf_text}
 use Rattle.pb_dimacs.specs.CnfWholeLaws.{Tells}
 use Rattle.pb_encode.specs.Clauses.{clauses_from, problem_clauses, problem_vars}
 use Rattle.pb_encode.specs.Encodings.{derivation_text}
 use Rattle.pb_encode.specs.Groups.{statement_groups}
+use Rattle.pb_encode.specs.Models.{IsModelOver}
 use Rattle.pb_encode.specs.Steps.{loaded_steps}
 use Rattle.pb_encode.specs.Summaries.{IsEncodable, IsOver}
 use Rattle.pb_encode.proofs.CnfTexts.{problem_told}
@@ -46,7 +51,7 @@ columns_stop chosen c o (fault.Unfit at) are stops = unfit o at are stops
 columns_stop chosen c o (fault.Limit which at) are stops = limited o which at are stops
 
 -- their problem is not sized up
-pub not_sized : (chosen : PbcnfOptions) (c : Columns) (o : Options) (ss : List Raw) (p : Problem) (answer : Outcome) → options_of chosen ≡ Some o → AreStatementsOf c ss → IsWithinLimits (problem_of c.first ss) → p ≡ problem_of c.first ss → StopsSizing o p answer → StopsConstraints chosen c 0 answer
+pub not_sized : (chosen : PbcnfOptions) (c : Columns) (o : Options) (ss : List Raw) (p : Problem) (answer : Outcome) → options_of chosen ≡ Some o → ArePosedOf c ss → IsWithinLimits (problem_of c.first ss) → p ≡ problem_of c.first ss → StopsSizing o p answer → StopsConstraints chosen c 0 answer
 not_sized chosen c o ss p _ are given within same (sizing_over which passes) = over o ss which are given within (subst (IsOver which o) same passes)
 not_sized chosen c o ss p _ are given within same sizing_no_memory = no_memory
 
@@ -60,10 +65,23 @@ accepted_beside o p cnf within encodable told =
     written_runs_are_accepted p cnf (derivation_text o p) _ (problem_clauses o p) (loaded_steps o p) derived.end
     told.1 (omega arith) derived.within derived.sayable refl derived.runs
 
+abbrev Fronts : Columns → Options → List Raw → List Bool → Type 0
+Fronts c o ss values = (model : List Bool) × IsModelOver (problem_vars o (problem_of c.first ss)) (clauses_from o c.first (statement_groups ss)) model × (take (c.first - 1) model ≡ values)
+
+-- the values under which each constraint holds whose condition is true are the fronts of models
+fronts : (c : Columns) (o : Options) (ss : List Raw) (given : ArePosedOf c ss) → IsWithinLimits (problem_of c.first ss) → problem_clauses o (problem_of c.first ss) ≡ clauses_from o c.first (statement_groups ss) → (values : List Bool) → length values ≡ c.first - 1 → HoldUnder (assigned_by values) (conditions_in c.sums) given.asked ↔ Fronts c o ss values
+fronts c o ss given within same values covers =
+    let a = assigned_by values in
+    let law = asked_all a (conditions_in c.sums) given.asked in
+    let models = models_of c.first ss o (clauses_from o c.first (statement_groups ss)) within same values covers in (
+      λ holds. models.0 (subst (All (Satisfies a)) (sym given.posed_are) (law.1 holds)),
+      λ found. law.0 (subst (All (Satisfies a)) given.posed_are (models.1 found)),
+    )
+
 are_clauses : (chosen : PbcnfOptions) (c : Columns) (o : Options) (ss : List Raw) (zs : List ℤ) (count : ℕ) → AreAdmitted chosen c o ss
     → zs ≡ flat_map clause_numbers (problem_clauses o (problem_of c.first ss)) → count ≡ length zs → AreClausesOf chosen c zs (problem_size o (problem_of c.first ss) count)
 are_clauses chosen c o ss zs count admitted are counted =
-    let low = admitted.given.fit.first_from in
+    let low = admitted.given.given.fit.first_from in
     let within = admitted.within in
     let same = its_clauses c.first ss o low in
     record {
@@ -78,7 +96,7 @@ are_clauses chosen c o ss zs count admitted are counted =
       vars_fit = admitted.encodable.vars;
       count_is = sym (clauses-count o (problem_of c.first ss) within) ∙ ap (λ (cs : List (List Lit)). length cs) same;
       length_is = counted;
-      models = models_of c.first ss o (clauses_from o c.first (statement_groups ss)) within same;
+      models = fronts c o ss admitted.given within same;
       forces = forces_of c.first ss o (clauses_from o c.first (statement_groups ss)) low within same;
     }
 
@@ -87,7 +105,7 @@ is_derivation : (chosen : PbcnfOptions) (c : Columns) (o : Options) (ss : List R
 is_derivation chosen c o ss proof size admitted exact sized =
     let p = problem_of c.first ss in
     let clauses = clauses_from o c.first (statement_groups ss) in
-    let same = its_clauses c.first ss o admitted.given.fit.first_from in
+    let same = its_clauses c.first ss o admitted.given.given.fit.first_from in
     let vars : size.vars ≡ problem_vars o p = ap (λ (n : PbcnfSize). n.vars) sized in
     record {
       options = o;

@@ -35,7 +35,7 @@ fn one_sum(side: &PbcnfSide, terms: usize) -> PbcnfSum
 {
     PbcnfSum {
         relation: side.relation,
-        unused: 0,
+        condition: 0,
         terms: terms as u64,
         right_low: side.right_low,
         right_high: side.right_high,

@@ -40,6 +40,8 @@ __version__ = "0.3.0"
 Text = Union[str, bytes, bytearray, memoryview, "mmap.mmap"]
 Terms = Iterable[Tuple[int, int]]
 Relation = Literal[">=", "<=", "="]
+# A constraint: its terms, its relation, its right side, and the literal under which alone it is asked, if there is one.
+Asked = Union[Tuple[Terms, Relation, int], Tuple[Terms, Relation, int, int]]
 
 
 class Chosen(TypedDict, total=False):
@@ -219,20 +221,24 @@ def derive_constraint(terms: Terms, relation: Relation, right: int, *, first: in
 # --- Many constraints in one call
 
 
-def constraints(asked: Iterable[Tuple[Terms, Relation, int]], *, first: int, **chosen: Unpack[Chosen]) -> Encoding:
+def constraints(asked: Iterable[Asked], *, first: int, **chosen: Unpack[Chosen]) -> Encoding:
     """The clauses of many constraints, one after another, with their fresh variables from `first` on: what `constraint` makes of each
     with the first variable that is still free, in one call of the library.
 
-    Each is a tuple of its terms, its relation and its right side. Where one is to blame, the error reports its number.
+    Each is a tuple of its terms, its relation and its right side. A literal after these is its condition: the constraint has to hold
+    only if that is true. Unit propagation reaches from the condition all that each half forces, and the condition's negation if
+    the half cannot hold. Where one is to blame, the error reports its number.
 
     >>> pbcnf.constraints([([(1, 1), (1, 2), (1, 3)], "<=", 1), ([(2, 1), (1, -2)], ">=", 2)], first=4).clauses
     [[-1, -2], [-1, -3], [-2, -3], [1]]
+    >>> pbcnf.constraints([([(1, 1), (1, 2)], ">=", 2, 3)], first=4).clauses
+    [[1, -3], [2, -3]]
     """
     given = posed_all(asked, first, chosen)
     return _calling.put_clauses("pbcnf_constraints", given, 32 * given.amount + 256)
 
 
-def derive_constraints(asked: Iterable[Tuple[Terms, Relation, int]], *, first: int, **chosen: Unpack[Chosen]) -> str:
+def derive_constraints(asked: Iterable[Asked], *, first: int, **chosen: Unpack[Chosen]) -> str:
     """The derivation of these clauses, beside the problem of these constraints over the variables below `first`.
 
     >>> asked = [([(1, 1), (1, 2)], ">=", 1), ([(1, 1), (1, 2)], "<=", 1)]

@@ -7,7 +7,7 @@ import struct
 from array import array
 from collections.abc import Mapping as Mappings
 from operator import index
-from typing import Any, Callable, Dict, Iterable, List, Mapping, NamedTuple, Optional, Tuple, Union
+from typing import Any, Callable, Dict, Iterable, List, Mapping, NamedTuple, Optional, Tuple
 
 from pbcnf._native import SUM, Bound, Options, Side
 from pbcnf.errors import Usage
@@ -143,26 +143,34 @@ def posed_one(terms: Iterable[Tuple[int, int]], relation: str, right: int, first
     return Posed(given, len(pairs), lambda: _usage_of_one([index(literal) for _, literal in pairs], index(first), chosen))
 
 
-def posed_all(constraints: Iterable[Tuple[Iterable[Tuple[int, int]], str, int]], first: int, chosen: Mapping[str, Any]) -> Posed:
+def posed_all(constraints: Iterable[Any], first: int, chosen: Mapping[str, Any]) -> Posed:
+    """Each constraint is a tuple of its terms, its relation and its right side, and of a condition, if it has one."""
     coefficients: List[int] = []
     literals: List[int] = []
     sums: List[bytes] = []
-    for terms, relation, right in constraints:
+    conditions: List[int] = []
+    for terms, relation, right, *condition in constraints:
         before = len(literals)
         for coefficient, literal in terms:
             coefficients.append(coefficient)
             literals.append(literal)
-        sums.append(_packed(len(sums) + 1, len(literals) - before, relation, right))
+        conditions.append(_condition(*condition))
+        sums.append(_packed(len(sums) + 1, len(literals) - before, relation, right, conditions[-1]))
     words, numbers = _coefficients(coefficients), _literals(literals)
     given = [_Block(words), len(words), _Block(numbers), len(numbers), b"".join(sums), len(sums), _within(index(first)), options_of(chosen)]
-    return Posed(given, len(literals), lambda: _usage_of_all(sums, [index(literal) for literal in literals], index(first), chosen))
+    return Posed(given, len(literals), lambda: _usage_of_all(sums, conditions, [index(literal) for literal in literals], index(first), chosen))
 
 
-def _packed(number: int, terms: int, relation: str, right: int) -> bytes:
-    """The relation and the right side of the constraint of this number."""
-    value = index(right)
+def _condition(literal: int = 0) -> int:
+    """The literal under which alone a constraint is asked, or 0."""
+    return index(literal)
+
+
+def _packed(number: int, terms: int, relation: str, right: int, condition: int) -> bytes:
+    """The condition, the relation and the right side of the constraint of this number. For a condition that is none the library is passed one that it refuses."""
+    value, literal = index(right), condition if abs(condition) < _MOST_FIRST else -_MOST_FIRST
     try:
-        return SUM.pack(RELATIONS[relation], 0, terms, value & ((1 << 64) - 1), value >> 64)
+        return SUM.pack(RELATIONS[relation], literal, terms, value & ((1 << 64) - 1), value >> 64)
     except KeyError:
         raise usage("the relation of constraint %d is %r, and not one of >=, <= and =" % (number, relation)) from None
     except struct.error:
@@ -193,31 +201,42 @@ def _usage_of(chosen: Mapping[str, Any]) -> Usage:
 
 
 def _usage_of_one(literals: List[int], first: int, chosen: Mapping[str, Any]) -> Usage:
-    number = _mistaken(literals, first, chosen)
-    return number if isinstance(number, Usage) else _usage_of_term("term %d" % (number + 1), literals[number], first)
+    mistake = _mistaken(first, chosen)
+    if mistake is not None:
+        return mistake
+    number = _outside(literals, first)
+    return _usage_of_literal("literal of term %d" % (number + 1), literals[number], first)
 
 
-def _usage_of_all(sums: List[bytes], literals: List[int], first: int, chosen: Mapping[str, Any]) -> Usage:
-    number = _mistaken(literals, first, chosen)
-    if isinstance(number, Usage):
-        return number
-    term = number
+def _usage_of_all(sums: List[bytes], conditions: List[int], literals: List[int], first: int, chosen: Mapping[str, Any]) -> Usage:
+    mistake = _mistaken(first, chosen)
+    if mistake is not None:
+        return mistake
+    for constraint, condition in enumerate(conditions, 1):
+        if condition and not 1 <= abs(condition) < first:
+            return _usage_of_literal("condition of constraint %d" % constraint, condition, first)
+    number = term = _outside(literals, first)
     for constraint, packed in enumerate(sums, 1):
         terms = SUM.unpack(packed)[2]
         if term < terms:
             break
         term -= terms
-    return _usage_of_term("term %d of constraint %d" % (term + 1, constraint), literals[number], first)
+    return _usage_of_literal("literal of term %d of constraint %d" % (term + 1, constraint), literals[number], first)
 
 
-def _mistaken(literals: List[int], first: int, chosen: Mapping[str, Any]) -> Union[int, Usage]:
-    """The place of the first literal that is none, unless something else is out of its range."""
+def _mistaken(first: int, chosen: Mapping[str, Any]) -> Optional[Usage]:
+    """Whether the budget or the first fresh variable is out of its range."""
     if not 1 <= index(chosen.get("budget", _BUDGET)) <= _MOST_BUDGET:
         return _usage_of(chosen)
     if not 1 <= first <= _MOST_FIRST:
         return usage("the first fresh variable is %d, and not from 1 to %d" % (first, _MOST_FIRST))
+    return None
+
+
+def _outside(literals: List[int], first: int) -> int:
+    """The place of the first literal that is of no variable below the first fresh one."""
     return next(number for number, literal in enumerate(literals) if not 1 <= abs(literal) < first)
 
 
-def _usage_of_term(term: str, literal: int, first: int) -> Usage:
-    return usage("the literal of %s is %d, and not of a variable from 1 to %d" % (term, literal, first - 1))
+def _usage_of_literal(what: str, literal: int, first: int) -> Usage:
+    return usage("the %s is %d, and not of a variable from 1 to %d" % (what, literal, first - 1))

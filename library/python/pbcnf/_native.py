@@ -12,8 +12,8 @@ from typing import Dict, List
 from pbcnf.errors import NoLibrary
 
 DONE, NO_ROOM = 0, 5
-# What goes with the terms of a sum: the relation, 0, how many terms it has, and the words of the right side.
-SUM = struct.Struct("=IIQQq")
+# What goes with the terms of a sum: the relation, the condition, how many terms it has, and the words of the right side.
+SUM = struct.Struct("=IiQQq")
 # Which structs and numbers are those below, as PBCNF_ABI of the header.
 ABI = 1
 _NAME = "libpbcnf.so.0"

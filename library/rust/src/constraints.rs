@@ -50,11 +50,29 @@ impl Constraints {
 
     /// Adds one at the end.
     pub fn push(&mut self, constraint: Constraint<'_>) {
+        self.push_with(0, constraint);
+    }
+
+    /// Adds one that has to hold only if the condition is true. Unit propagation reaches from the condition all that each half
+    /// forces, and the condition's negation if that half cannot hold.
+    ///
+    /// ```
+    /// use pbcnf::{lit, Constraint, Constraints, Options, Relation};
+    /// let (terms, mut constraints) = ([(1, lit(1)), (1, lit(2))], Constraints::new());
+    /// constraints.push_under(lit(3), Constraint { terms: &terms, relation: Relation::AtLeast, right: 2 });
+    /// assert_eq!(constraints.encode(4, &Options::new())?.integers(), [1, -3, 0, 2, -3, 0]);
+    /// # Ok::<(), pbcnf::Error>(())
+    /// ```
+    pub fn push_under(&mut self, condition: Lit, constraint: Constraint<'_>) {
+        self.push_with(condition.get(), constraint);
+    }
+
+    fn push_with(&mut self, condition: i32, constraint: Constraint<'_>) {
         let (right_low, right_high) = words(constraint.right);
         self.columns.extend(constraint.terms);
         self.sums.push(c::Sum {
             relation: constraint.relation as u32,
-            unused: 0,
+            condition,
             terms: constraint.terms.len() as u64,
             right_low,
             right_high,
@@ -156,7 +174,20 @@ impl Constraints {
     fn mistake(&self, first: u32, options: &Options) -> Option<Mistake> {
         mistaken_budget(options)
             .or_else(|| mistaken_first(first))
+            .or_else(|| self.mistaken_condition(first))
             .or_else(|| self.mistaken_literal(first))
+    }
+
+    fn mistaken_condition(&self, first: u32) -> Option<Mistake> {
+        let of_sum = |(constraint, sum): (usize, &c::Sum)| {
+            let condition = Lit::try_from(sum.condition).ok()?;
+            (condition.var() >= first).then_some(Mistake::Condition {
+                constraint,
+                condition,
+                first,
+            })
+        };
+        self.sums.iter().enumerate().find_map(of_sum)
     }
 
     fn mistaken_literal(&self, first: u32) -> Option<Mistake> {

@@ -42,6 +42,15 @@ pub enum Mistake {
         /// The first fresh variable.
         first: u32,
     },
+    /// The condition of this one of many constraints, counted from 0, is not of a variable below the first fresh one.
+    Condition {
+        /// Which constraint.
+        constraint: usize,
+        /// Its condition.
+        condition: Lit,
+        /// The first fresh variable.
+        first: u32,
+    },
 }
 
 impl fmt::Display for Mistake {
@@ -76,6 +85,16 @@ impl fmt::Display for Mistake {
                 f,
                 "the literal of term {} of constraint {} is {literal}, and not of a variable from 1 to {}",
                 term + 1,
+                constraint + 1,
+                first - 1
+            ),
+            Mistake::Condition {
+                constraint,
+                condition,
+                first,
+            } => write!(
+                f,
+                "the condition of constraint {} is {condition}, and not of a variable from 1 to {}",
                 constraint + 1,
                 first - 1
             ),

@@ -292,3 +292,38 @@ fn many_constraints() {
     both.clear();
     assert!(both.is_empty());
 }
+
+#[test]
+fn conditions() {
+    let (two, one) = ([(1, lit(1)), (1, lit(2))], [(1, lit(2))]);
+    let both = Constraint {
+        terms: &two,
+        relation: Relation::AtLeast,
+        right: 2,
+    };
+    let none = Constraint {
+        terms: &one,
+        relation: Relation::AtMost,
+        right: 0,
+    };
+    let (mut asked, options) = (Constraints::new(), Options::new());
+    asked.push_under(lit(3), both);
+    asked.push_under(!lit(3), none);
+    let made = asked.encode(4, &options).unwrap();
+    assert_eq!(made.integers(), [1, -3, 0, 2, -3, 0, -2, 3, 0]);
+    asked.push_under(!lit(4), none);
+    let refused = asked.encode(4, &options).unwrap_err();
+    let mistake = Mistake::Condition {
+        constraint: 2,
+        condition: !lit(4),
+        first: 4,
+    };
+    assert_eq!(
+        (refused.kind(), refused.constraint()),
+        (Kind::Usage(mistake), Some(2))
+    );
+    assert_eq!(
+        refused.to_string(),
+        "pbcnf: usage: the condition of constraint 3 is -4, and not of a variable from 1 to 3"
+    );
+}

@@ -4,7 +4,6 @@ use Rattle.std.specs.List.{range_with_len}
 use Rattle.pb_base.specs.declared.literal.Term.{Term}
 use Rattle.pb_base.specs.declared.problem.Relation.TheVariants.{AtLeast, AtMost, Equal}
 use Rattle.pb_base.specs.Statements.{statements_in}
-use Rattle.pb_dimacs.specs.CnfReading.{literal_number}
 use Rattle.pb_columns.specs.declared.sum.PbcnfSum.{PbcnfSum}
 use Rattle.pb_columns.specs.Columns.{coefficient_at, head_of, head_with, relation_of}
 use Rattle.pb_columns.specs.Words.{wide}
@@ -37,7 +36,7 @@ relations = refl
 -- ---- columns
 
 abbrev sum : ℕ → ℕ → ℕ → PbcnfSum
-sum relation terms right = record { relation = relation; unused = 0; terms = terms; right_low = right; right_high = 0 }
+sum relation terms right = record { relation = relation; condition = pos 0; terms = terms; right_low = right; right_high = 0 }
 
 abbrev term : ℕ → ℕ → Bool → Term
 term n v b = record { coef = pos n; lit = record { var = v; positive = b } }

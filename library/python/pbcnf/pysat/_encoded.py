@@ -3,11 +3,11 @@
 from __future__ import annotations
 
 import warnings
-from typing import Any, Dict, Iterable, List, Mapping, NamedTuple, Optional
+from typing import Any, Dict, Iterable, Mapping, NamedTuple, Optional, Sequence
 
 import pbcnf
-from pbcnf.conditions import Statement
 from pbcnf.pysat.formula import CNF, greatest, renamed
+
 
 class Place(NamedTuple):
     """Where the fresh variables are from: after the last that is taken, or from a pool."""
@@ -36,13 +36,9 @@ def options_of(encoding: int, known: Mapping[int, Dict[str, str]], others: Mappi
     return {}
 
 
-def encoded(statements: List[Statement], place: Place, options: Mapping[str, Any]) -> CNF:
-    """The clauses of all of these constraints."""
-    first = place.first(literal for terms, _, _ in statements for _, literal in terms)
-    clauses: List[List[int]] = []
-    free = first
-    for terms, relation, right in statements:
-        encoding = pbcnf.constraint(terms, relation, right, first=free, **options)  # type: ignore[arg-type]
-        clauses += encoding
-        free = encoding.next_free
-    return CNF(clauses, free - 1) if place.vpool is None else renamed(clauses, first, place.vpool)
+def encoded(asked: Sequence[Any], place: Place, options: Mapping[str, Any]) -> CNF:
+    """The clauses of all of these constraints, each of which may have a condition behind its right side."""
+    first = place.first(literal for terms, _, _, *condition in asked for literal in [*(literal for _, literal in terms), *condition])
+    encoding = pbcnf.constraints(asked, first=first, **options)
+    clauses = list(encoding)
+    return CNF(clauses, encoding.variables) if place.vpool is None else renamed(clauses, first, place.vpool)

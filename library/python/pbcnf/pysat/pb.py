@@ -7,9 +7,9 @@
 
 from __future__ import annotations
 
-from typing import Any, Dict, Iterable, List, Optional, Tuple, Union
+from typing import Any, Dict, Iterable, List, Optional, Sequence, Tuple, Union
 
-from pbcnf.conditions import Statement, conditioned
+from pbcnf.conditions import conditioned
 from pbcnf.pysat._encoded import NoSuchEncodingError, Place, encoded, options_of
 from pbcnf.pysat.formula import CNF
 
@@ -47,7 +47,13 @@ def _terms(lits: Lits, weights: Optional[Iterable[int]]) -> List[Tuple[int, int]
     return [(weight, literal) for weight, (literal, _) in zip(counted, pairs)]
 
 
-def _made(asked: List[Statement], place: Place, encoding: int, strict: bool) -> CNF:
+def _asked(terms: List[Tuple[int, int]], relation: str, bound: int, conditionals: Optional[Iterable[int]]) -> Sequence[Any]:
+    """A condition is passed on to the library. Of more than one each is a term."""
+    conditions = list(conditionals or ())
+    return [(terms, relation, bound, *conditions)] if len(conditions) == 1 else conditioned(terms, relation, bound, conditions)
+
+
+def _made(asked: Sequence[Any], place: Place, encoding: int, strict: bool) -> CNF:
     return encoded(asked, place, options_of(encoding, _KNOWN, _OTHERS, strict))
 
 
@@ -69,7 +75,7 @@ class PBEnc:
         >>> PBEnc.leq([1, 2], weights=[2, 3], bound=4, conditionals=[3]).clauses
         [[-1, -2, -3]]
         """
-        asked = conditioned(_terms(lits, weights), "<=", bound, conditionals or ())
+        asked = _asked(_terms(lits, weights), "<=", bound, conditionals)
         return _made(asked, Place(top_id, vpool), encoding, strict)
 
     @classmethod
@@ -80,7 +86,7 @@ class PBEnc:
         >>> PBEnc.geq([(1, 2), (2, 3)], bound=5).clauses
         [[1], [2]]
         """
-        asked = conditioned(_terms(lits, weights), ">=", bound, conditionals or ())
+        asked = _asked(_terms(lits, weights), ">=", bound, conditionals)
         return _made(asked, Place(top_id, vpool), encoding, strict)
 
     @classmethod
@@ -91,7 +97,7 @@ class PBEnc:
         >>> PBEnc.equals([1, 2], weights=[2, 3], bound=3).clauses
         [[2], [-1, -2]]
         """
-        asked = conditioned(_terms(lits, weights), "=", bound, conditionals or ())
+        asked = _asked(_terms(lits, weights), "=", bound, conditionals)
         return _made(asked, Place(top_id, vpool), encoding, strict)
 
     atmost = leq

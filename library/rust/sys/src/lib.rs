@@ -66,7 +66,7 @@ pub struct Side {
 #[derive(Clone, Copy, PartialEq, Eq, Hash, Default, Debug)]
 pub struct Sum {
     pub relation: u32,
-    pub unused: u32,
+    pub condition: i32,
     pub terms: u64,
     pub right_low: u64,
     pub right_high: u64,

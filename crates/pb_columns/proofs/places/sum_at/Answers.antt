@@ -1,7 +1,5 @@
-use Rattle.std.proofs.Common.{◌≡◌, arith, get_or, refl, take}
-use Rattle.std.proofs.lemmas.List.Sums.{sum_by_more}
+use Rattle.std.proofs.Common.{arith, get_or}
 use Rattle.pb_columns.specs.declared.sum.PbcnfSum.{PbcnfSum}
-use Rattle.pb_columns.specs.Columns.{terms_asked}
 use Rattle.pb_columns.proofs.Standing.{no_sum, stands_here}
 use Rattle.pb_columns.proofs.places.sum_at.Goals as goal
 
