@@ -29,13 +29,13 @@
 extern "C" {
 #endif
 
-#define PBCNF_VERSION "0.3.0"
+#define PBCNF_VERSION "0.4.0"
 /* Which structs, numbers and meanings the calls below have. A library of others answers another number by pbcnf_abi. */
 #define PBCNF_ABI 1
 
-/* The version of the library that is there: a byte for each of its three numbers, 0x000300 for 0.3.0.
+/* The version of the library that is there: a byte for each of its three numbers, 0x000400 for 0.4.0.
  *
- *      assert(pbcnf_version() >= 0x000300);
+ *      assert(pbcnf_version() >= 0x000400);
  */
 uint32_t pbcnf_version(void);
 

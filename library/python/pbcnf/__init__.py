@@ -35,7 +35,7 @@ __all__ = [
     "derive_constraint", "derive_constraints", "dimacs", "encode", "names", "refute", "wcnf",
 ]
 
-__version__ = "0.3.0"
+__version__ = "0.4.0"
 
 Text = Union[str, bytes, bytearray, memoryview, "mmap.mmap"]
 Terms = Iterable[Tuple[int, int]]
