@@ -96,6 +96,13 @@ typedef struct {
   int32_t unused;    /* 0 */
 } pbcnf_row;
 
+/* What stands beside soft literals. */
+typedef struct {
+  uint64_t offset_low;  /* what their weights are added to, in two's complement of 128 bits, as two words of 64 */
+  uint64_t offset_high;
+  uint64_t length;      /* the soft literals that are put or are to be put */
+} pbcnf_costs;
+
 /* Why a call did not do what was asked, in numbers. What does not apply is 0; at PBCNF_DONE all are. */
 typedef struct {
   uint64_t line;     /* from 1: of a place in a text, of a step, or of a line of a refutation */
@@ -264,6 +271,13 @@ uint8_t pbcnf_bounds(const uint8_t *opb, size_t opb_len, const pbcnf_options *op
  */
 uint8_t pbcnf_wcnf(const uint8_t *opb, size_t opb_len, const pbcnf_options *options, const pbcnf_bound *bound,
                    uint8_t *wcnf, size_t room, pbcnf_size *size, pbcnf_refusal *refusal);
+
+/* What the objective costs, for a MaxSAT solver beside the clauses of pbcnf_clauses: each row's literal costs its value where it is false,
+ * and in each model the objective is the offset and the values of the rows whose literals are false. The values are above 0, and the rows
+ * those of the soft lines of `pbcnf wcnf`; of a problem without an objective there are none, and the offset is 0.
+ * Statuses 0, 1, 3, 5, 6. */
+uint8_t pbcnf_softs(const uint8_t *opb, size_t opb_len, const pbcnf_bound *bound, pbcnf_row *softs, size_t room, pbcnf_costs *costs,
+                    pbcnf_refusal *refusal);
 
 /* What `pbcnf decode` says of a solver's text (its `s` and `v` lines): the values of all variables by their names, once they
  * are tested against each statement, and the bound. *length: its bytes. Statuses 0, 1, 3, 5, 6, 8, 9.
@@ -508,6 +522,11 @@ static inline uint8_t pbcnf_decode_front(const uint8_t *opb, size_t opb_len, con
   return pbcnf_decode(pbcnf_text_front(opb, opb_len), opb_len, bound, pbcnf_text_front(model, model_len), model_len,
                       pbcnf_bytes_front(said, room), room, length, refusal);
 }
+PBCNF_NODISCARD PBCNF_NONNULL(3, 6, 7)
+static inline uint8_t pbcnf_softs_front(const uint8_t *opb, size_t opb_len, const pbcnf_bound *bound, pbcnf_row *PBCNF_RESTRICT softs,
+                                        size_t room, pbcnf_costs *PBCNF_RESTRICT costs, pbcnf_refusal *PBCNF_RESTRICT refusal) {
+  return pbcnf_softs(pbcnf_text_front(opb, opb_len), opb_len, bound, pbcnf_rows_front(softs, room), room, costs, refusal);
+}
 PBCNF_NODISCARD PBCNF_NONNULL(5, 6)
 static inline uint8_t pbcnf_map_front(const uint8_t *opb, size_t opb_len, uint8_t *PBCNF_RESTRICT said, size_t room,
                                       uint64_t *PBCNF_RESTRICT length, pbcnf_refusal *PBCNF_RESTRICT refusal) {
@@ -543,6 +562,7 @@ static inline uint8_t pbcnf_words_front(const pbcnf_refusal *refusal, uint8_t *P
 #define pbcnf_bounds pbcnf_bounds_front
 #define pbcnf_wcnf pbcnf_wcnf_front
 #define pbcnf_decode pbcnf_decode_front
+#define pbcnf_softs pbcnf_softs_front
 #define pbcnf_map pbcnf_map_front
 #define pbcnf_check pbcnf_check_front
 #define pbcnf_refute pbcnf_refute_front

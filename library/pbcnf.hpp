@@ -293,6 +293,24 @@ inline std::vector<pbcnf_row> bounds(std::string_view opb, Options options = {},
   });
 }
 
+/* What the objective costs: in each model it is the offset and the values of the rows whose literals are false. */
+struct Softs {
+  Number offset;
+  std::vector<pbcnf_row> rows;
+};
+
+inline Softs softs(std::string_view opb, std::optional<Number> at_most = {}) {
+  const pbcnf_bound bound = detail::bound(at_most);
+  pbcnf_costs costs;
+  using Room = std::vector<pbcnf_row>;
+  Room rows = detail::filled(Room(64), [&](Room &room, std::uint64_t &length, pbcnf_refusal &refusal) {
+    const std::uint8_t status = pbcnf_softs(detail::bytes(opb), opb.size(), &bound, room.data(), room.size(), &costs, &refusal);
+    length = costs.length;
+    return status;
+  });
+  return {Number(costs.offset_low, costs.offset_high), std::move(rows)};
+}
+
 /* What the program says of a solver's text, its `s` and `v` lines: the solution, once it was tested against each statement. */
 inline std::string decode(std::string_view opb, std::string_view model, std::optional<Number> at_most = {}) {
   const pbcnf_bound bound = detail::bound(at_most);

@@ -61,6 +61,13 @@ static void make_check(const struct problem *p, void *room, size_t count, struct
   a->status = pbcnf_check(OPB(p), &p->bound, cnf, made.length, proof, derived.length, &a->refusal);
 }
 
+static void make_softs(const struct problem *p, void *room, size_t count, struct answer *a) {
+  pbcnf_costs costs = {7, 7, 7};
+  a->status = pbcnf_softs(OPB(p), &p->bound, (pbcnf_row *)room, count, &costs, &a->refusal);
+  a->length = costs.length;
+  if (a->status != PBCNF_DONE && a->status != PBCNF_NO_ROOM) a->length += costs.offset_low + costs.offset_high;
+}
+
 static void make_map(const struct problem *p, void *room, size_t count, struct answer *a) {
   a->status = pbcnf_map(OPB(p), (uint8_t *)room, count, &a->length, &a->refusal);
 }
@@ -105,6 +112,7 @@ static const struct call calls[] = {
     {"check", 1, make_check},
     {"decode", 1, make_decode},
     {"map", 1, make_map},
+    {"softs", sizeof(pbcnf_row), make_softs},
     {"constraint, 64 bits", 4, make_narrow},
     {"constraint, 128 bits", 4, make_wide},
     {"constraint_derive, 64 bits", 1, make_narrow_derive},
@@ -126,6 +134,11 @@ static const struct problem problems[] = {
     {"+1 x1 +1 x2 >= 1 ;\n+1 ~x1 >= 1 ;\n+1 ~x2 >= 1 ;\n", "s UNSATISFIABLE\n", PBCNF_OPTIONS_DEFAULT, PBCNF_NO_BOUND},
     {"", "s SATISFIABLE\n", PBCNF_OPTIONS_DEFAULT, PBCNF_NO_BOUND},
 };
+
+/* Whether a call takes options, and tells the size of an encoding. */
+static inline int encodes(const struct call *call) {
+  return call->make != make_decode && call->make != make_map && call->make != make_check && call->make != make_softs;
+}
 
 /* What a problem's status is due to be of a call, in the order of the list of calls. */
 static inline uint8_t due(const struct problem *p, const struct call *call) {

@@ -42,6 +42,11 @@ uint8_t pbcnf_decode(const uint8_t *opb, size_t opb_len, const pbcnf_bound *boun
   return (void)opb_len, (void)model_len, (void)room, (void)length, (void)refusal, seen(opb, bound, model, said);
 }
 
+uint8_t pbcnf_softs(const uint8_t *opb, size_t opb_len, const pbcnf_bound *bound, pbcnf_row *softs, size_t room, pbcnf_costs *costs,
+                    pbcnf_refusal *refusal) {
+  return (void)opb_len, (void)room, (void)costs, seen(opb, bound, softs, refusal);
+}
+
 uint8_t pbcnf_map(const uint8_t *opb, size_t opb_len, uint8_t *said, size_t room, uint64_t *length, pbcnf_refusal *refusal) {
   return (void)opb_len, (void)room, seen(opb, said, length, refusal);
 }

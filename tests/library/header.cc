@@ -57,6 +57,9 @@ void try_clauses() {
   judge(pbcnf::wcnf("min: +3 x1 -2 x2 ;\n+1 x1 +1 x2 >= 1 ;\n") == "c offset -2\nh 1 2 0\n3 -1 0\n2 2 0\n", "weights");
   const std::vector<pbcnf_row> rows = pbcnf::bounds("min: +3 x1 -2 x2 ;");
   judge(rows.size() == 3 && rows[2].low == 3 && rows[2].high == 0 && rows[2].literal == 5, "bounds");
+  const pbcnf::Softs softs = pbcnf::softs("min: +3 x1 -2 x2 ;");
+  judge(softs.offset.low == UINT64_MAX - 1 && softs.offset.high == UINT64_MAX && softs.rows.size() == 2, "an offset");
+  judge(softs.rows[0].low == 3 && softs.rows[0].literal == -1 && softs.rows[1].low == 2 && softs.rows[1].literal == 2, "soft literals");
 }
 
 void try_models() {

@@ -11,11 +11,6 @@ static struct problem problem_of(const char *opb, pbcnf_options options) {
   return p;
 }
 
-/* The calls that take options. */
-static int has_options(const struct call *call) {
-  return call->make != make_decode && call->make != make_map && call->make != make_check;
-}
-
 /* A call under these options is refused, or done. */
 static void try_options(pbcnf_options options, int is_usage, long where) {
   const struct problem texts[] = {problem_of(good, options), problem_of(bad, options)};
@@ -23,7 +18,7 @@ static void try_options(pbcnf_options options, int is_usage, long where) {
     for (size_t i = 0; i < COUNT(calls); i++) {
       uint8_t *room;
       struct answer a = spoiled();
-      if (!has_options(&calls[i]) || (!is_usage && t)) continue;
+      if (!encodes(&calls[i]) || (!is_usage && t)) continue;
       room = room_of(&calls[i], ROOM);
       calls[i].make(&texts[t], room, ROOM, &a);
       judge(is_usage == (a.status == PBCNF_USAGE), "the options are judged first", calls[i].name, where);

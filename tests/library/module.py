@@ -132,6 +132,15 @@ class Encodings(unittest.TestCase):
 
 
 class Models(unittest.TestCase):
+    def test_softs(self):
+        self.assertEqual(pbcnf.softs("min: +3 x1 -2 x2 +1 x1 x3 ;"), (-2, [(3, -1), (2, 2), (1, -4)]))
+        self.assertEqual((pbcnf.softs("+1 x1 >= 1 ;"), pbcnf.softs(b"min: +1 x1 -1 x1 ;")), ((0, []), (0, [])))
+        self.assertEqual(pbcnf.softs("min: -%d x1 ;" % (1 << 70), at_most=0), (-(1 << 70), [(1 << 70, 1)]))
+        offset, rows = pbcnf.softs("min: %s ;" % " ".join("+%d x%d" % (n, n) for n in range(1, 200)))
+        self.assertEqual((offset, sorted(rows)), (0, [(n, -n) for n in range(1, 200)]))
+        self.assertRaises(pbcnf.Refused, pbcnf.softs, "min: +1 x1")
+        self.assertRaises(pbcnf.LimitPassed, pbcnf.softs, "min: +1 x1 ;", at_most=1 << 101)
+
     def test_literals_or_a_text(self):
         solution = pbcnf.decode(OPB, [-1, -2, 3, 4])
         self.assertEqual(solution, pbcnf.decode(OPB, "s SATISFIABLE\nv -1 -2 3 4 0\n"))

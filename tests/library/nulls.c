@@ -61,6 +61,11 @@ ALL_NULL(constraints_derive, uint8_t)
 static void null_decode(struct answer *a) {
   a->status = pbcnf_decode(TEXT, &bound, TEXT, (uint8_t *)empty(), 0, &a->length, &a->refusal);
 }
+static void null_softs(struct answer *a) {
+  pbcnf_costs costs = {0, 0, 0};
+  a->status = pbcnf_softs(TEXT, &bound, (pbcnf_row *)empty(), 0, &costs, &a->refusal);
+  a->length = costs.length;
+}
 static void null_map(struct answer *a) { a->status = pbcnf_map(TEXT, (uint8_t *)empty(), 0, &a->length, &a->refusal); }
 static void null_check(struct answer *a) { a->status = pbcnf_check(TEXT, &bound, TEXT, TEXT, &a->refusal); }
 static void null_refute(struct answer *a) { a->status = pbcnf_refute(TEXT, &bound, TEXT, TEXT, TEXT, &a->refusal); }
@@ -76,6 +81,7 @@ int main(void) {
   try_call("bounds", null_bounds);
   try_call("wcnf", null_wcnf);
   try_call("decode", null_decode);
+  try_call("softs", null_softs);
   try_call("map", null_map);
   try_call("check", null_check);
   try_call("refute", null_refute);

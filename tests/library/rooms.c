@@ -6,7 +6,7 @@ enum { AMPLE = 1 << 16 };
 /* How a call's size is spoiled before it is made: with every status the call reports its own. */
 static struct answer answer_of(const struct problem *p, const struct call *call, void *room, size_t count) {
   struct answer a = spoiled();
-  if (call->make != make_decode && call->make != make_map && call->make != make_check) memset(&a.size, 0x3c, sizeof a.size);
+  if (encodes(call)) memset(&a.size, 0x3c, sizeof a.size);
   a.length = 7;
   call->make(p, room, count, &a);
   return a;

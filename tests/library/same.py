@@ -96,6 +96,10 @@ def hold_encoding(program, opb, chosen, at_most, what):
     wcnf, own, own_line = told(pbcnf.wcnf, opb, at_most=at_most, **chosen)
     judge((weighed, weighed_line) == (own, own_line), what, chosen, at_most, weighed_line, own_line)
     judge(weighed or wcnf == program.read("a.wcnf"), what, chosen, at_most, "its weighted CNF")
+    if not weighed:
+        offset, rows = pbcnf.softs(opb, at_most=at_most)
+        softs = "c offset %d\n" % offset + "".join("%d %d 0\n" % row for row in rows)
+        judge(softs == "".join(line for line in wcnf.splitlines(True) if line[0] != "h"), what, at_most, "its soft literals")
     if status:
         return
     cnf = program.read("a.cnf")

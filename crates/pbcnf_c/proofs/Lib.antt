@@ -5,6 +5,7 @@ mod Endings
 mod Prepared
 mod Encoded
 mod Weighed
+mod Costed
 mod Bounded
 mod Decoded
 mod Numbered

@@ -10,6 +10,7 @@ pub mod Bounds
 pub mod Put
 pub mod Exports
 pub mod Weighings
+pub mod Softs
 pub mod Decodings
 pub mod Checks
 pub mod Constraints

@@ -31,8 +31,8 @@ pub struct PbcnfRow {
     pub unused: i32,
 }
 
-// The row of a value and a literal.
-fn row_of(value: &i128, lit: &Lit) -> PbcnfRow
+/// The row of a value and a literal.
+pub(crate) fn row_of(value: &i128, lit: &Lit) -> PbcnfRow
     ensures { told_by result ≡ numbers_of (value.now, lit.now) }
 {
     let (low, high) = halves(*value);

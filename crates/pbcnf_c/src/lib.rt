@@ -17,6 +17,7 @@ mod room;
 mod said;
 mod shelves;
 mod size;
+mod softs;
 mod weighing;
 mod words;
 
@@ -29,6 +30,7 @@ ghost use Rattle.pbcnf_c.specs.Constraints.{ConstrainsInto, ConstrainsOneInto, C
 ghost use Rattle.pbcnf_c.specs.Decodings.{DecodesInto, MapsInto};
 ghost use Rattle.pbcnf_c.specs.Exports.{DerivesInto, EncodesInto, HandsInto};
 ghost use Rattle.pbcnf_c.specs.Rooms.{Tells, TellsAt};
+ghost use Rattle.pbcnf_c.specs.Softs.{SoftsInto};
 ghost use Rattle.pbcnf_c.specs.Weighings.{WeighsInto};
 ghost use Rattle.pbcnf_c.specs.WordsSaid.{HasStatusOf, SaysRefusal};
 
@@ -42,6 +44,7 @@ use options::{PbcnfBound, PbcnfOptions, bound_of};
 use pb_columns::{Columns, PbcnfSum};
 use refusal::{PbcnfRefusal, tell, tell_at};
 use size::PbcnfSize;
+use softs::{PbcnfCosts, softs_into};
 use std::alloc::Global;
 use weighing::weigh_into;
 use words::words_into;
@@ -204,6 +207,25 @@ pub extern "C" fn pbcnf_wcnf(
     let ending = weigh_into(alloc, opb, options, bound, wcnf);
     *size = ending.size;
     tell(ending.outcome, refusal)
+}
+
+/// The soft literals of an OPB text's objective: a row's literal costs its value where it is false.
+#[unsafe(no_mangle)]
+pub extern "C" fn pbcnf_softs(
+    alloc: Global,
+    opb: &[u8],
+    bound: &PbcnfBound,
+    softs: &mut [PbcnfRow],
+    costs: &mut PbcnfCosts,
+    refusal: &mut PbcnfRefusal,
+) -> u8
+    // The call ends as its status says: the soft literals of the objective are at the front of the room, and the offset is told, or the
+    // room is too small, or the cause is the one that is there.
+    ensures { Tells (SoftsInto (bound_of bound.now) opb.now softs.old softs.new costs.new) result refusal.new }
+{
+    let costed = softs_into(alloc, opb, bound, softs);
+    *costs = costed.costs;
+    tell(costed.outcome, refusal)
 }
 
 /// Whether the derivation shows that each solution of the problem extends to a model of the CNF.

@@ -32,7 +32,7 @@ if TYPE_CHECKING:
 __all__ = [
     "Chosen", "Clauses", "Encoding", "Error", "LimitPassed", "NoLibrary", "NoModel", "NotASolution", "NotRefuted", "OutOfMemory",
     "Refused", "Rejected", "Relation", "Solution", "Usage", "bounds", "check", "constraint", "constraints", "decode", "derive",
-    "derive_constraint", "derive_constraints", "dimacs", "encode", "names", "refute", "wcnf",
+    "derive_constraint", "derive_constraints", "dimacs", "encode", "names", "refute", "softs", "wcnf",
 ]
 
 __version__ = "0.4.0"
@@ -127,6 +127,17 @@ def wcnf(opb: Text, *, at_most: Optional[int] = None, **chosen: Unpack[Chosen]) 
     """
     asked = posed(opb, at_most, chosen)
     return _calling.put_text("pbcnf_wcnf", asked, 5 * asked.amount + 4096)
+
+
+def softs(opb: Text, *, at_most: Optional[int] = None) -> Tuple[int, List[Tuple[int, int]]]:
+    """What the objective costs, for a MaxSAT solver beside the clauses of `encode`: an offset, and weights with their literals. In each
+    model the objective is the offset and the weights of the literals that are false.
+
+    >>> pbcnf.softs("min: +3 x1 -2 x2 ;")
+    (-2, [(3, -1), (2, 2)])
+    """
+    text = text_of(opb)
+    return _calling.put_softs("pbcnf_softs", Posed([text, len(text), bound_of(at_most)], len(text)), 64)
 
 
 def _judge(name: str, opb: Text, at_most: Optional[int], *texts: Text) -> None:

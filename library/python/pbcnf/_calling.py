@@ -9,11 +9,11 @@ from array import array
 from typing import Callable, List, Tuple, TypeVar, Union
 
 from pbcnf._arguments import Posed
-from pbcnf._native import DONE, NO_ROOM, Refusal, Row, Size, library
+from pbcnf._native import DONE, NO_ROOM, Costs, Refusal, Row, Size, library
 from pbcnf.errors import Error, Usage, error_of
 from pbcnf.results import Clauses, Encoding
 
-Told = Union[Size, ctypes.c_uint64]
+Told = Union[Size, Costs, ctypes.c_uint64]
 Made = TypeVar("Made")
 
 # Each thread keeps the room of its last call up to so many bytes, since the next one takes about as much.
@@ -41,7 +41,7 @@ def put(name: str, posed: Posed, told: Told, item: int, room: int, made: Callabl
             raise posed.usage()
         if status not in (DONE, NO_ROOM):
             raise error(refusal)
-        room = told.length if isinstance(told, Size) else told.value
+        room = told.value if isinstance(told, ctypes.c_uint64) else told.length
         if status == DONE:
             result = made(memoryview(filled)[:item * room])
             _give_room(filled)
@@ -83,6 +83,13 @@ def put_clauses(name: str, posed: Posed, room: int) -> Encoding:
 def put_rows(name: str, posed: Posed, room: int) -> List[Tuple[int, int]]:
     """The values and literals of the rows that a call puts."""
     return put(name, posed, Size(), ctypes.sizeof(Row), room, _rows)
+
+
+def put_softs(name: str, posed: Posed, room: int) -> Tuple[int, List[Tuple[int, int]]]:
+    """The offset, and the weights and literals of the rows that a call puts."""
+    costs = Costs()
+    rows = put(name, posed, costs, ctypes.sizeof(Row), room, _rows)
+    return (costs.high << 64) + costs.low, rows
 
 
 def _rows(put: memoryview) -> List[Tuple[int, int]]:

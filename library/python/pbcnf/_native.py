@@ -31,6 +31,10 @@ class Size(ctypes.Structure):
     _fields_ = [("vars", ctypes.c_uint32), ("original", ctypes.c_uint32), ("clauses", ctypes.c_uint64), ("length", ctypes.c_uint64)]
 
 
+class Costs(ctypes.Structure):
+    _fields_ = [("low", ctypes.c_uint64), ("high", ctypes.c_int64), ("length", ctypes.c_uint64)]
+
+
 class Side(ctypes.Structure):
     _fields_ = [("relation", ctypes.c_uint32), ("first", ctypes.c_uint32), ("low", ctypes.c_uint64), ("high", ctypes.c_uint64)]
 
@@ -65,6 +69,7 @@ def _signatures() -> Dict[str, List[object]]:
         "pbcnf_refute": [*text, bound, *text, *text, *text, refusal],
         "pbcnf_decode": [*text, bound, *text, *room, length, refusal],
         "pbcnf_map": [*text, *room, length, refusal],
+        "pbcnf_softs": [*text, bound, *room, pointer(Costs), refusal],
         "pbcnf_constraint": posed_one + room + sized,
         "pbcnf_constraint_derive": posed_one + room + sized,
         "pbcnf_constraints": posed_all + room + sized,

@@ -10,6 +10,11 @@ pub fn words(value: i128) -> (u64, u64) {
     (value as u64, (value >> 64) as u64)
 }
 
+/// The number of two words in two's complement.
+pub fn number(low: u64, high: u64) -> i128 {
+    i128::from(high as i64) << 64 | i128::from(low)
+}
+
 pub fn bound_of(at_most: Option<i128>) -> c::Bound {
     at_most.map_or_else(c::Bound::default, |value| {
         let (low, high) = words(value);

@@ -32,7 +32,7 @@ pub use results::{Clauses, Encoding, Solution};
 
 use pbcnf_sys as c;
 
-use calling::{bound_of, filled, judge_library, mistaken_budget, text};
+use calling::{bound_of, filled, judge_library, mistaken_budget, number, text};
 
 /// A call on a problem that puts a text or integers.
 type Call<T> = unsafe extern "C" fn(
@@ -133,11 +133,46 @@ pub fn bounds(
     options: &Options,
 ) -> Result<Vec<(i128, Lit)>, Error> {
     let (rows, _) = posed(c::pbcnf_bounds, 64, opb, at_most, &options.table(true))?;
-    let told = |row: &c::Row| {
-        let value = i128::from(row.high as i64) << 64 | i128::from(row.low);
-        (value, lit(row.literal))
-    };
-    Ok(rows.iter().map(told).collect())
+    Ok(told(&rows))
+}
+
+/// The values and the literals of rows.
+fn told(rows: &[c::Row]) -> Vec<(i128, Lit)> {
+    let pair = |row: &c::Row| (number(row.low, row.high), lit(row.literal));
+    rows.iter().map(pair).collect()
+}
+
+/// What the objective of a problem costs, for a MaxSAT solver beside the clauses of [`encode`]: an offset, and weights with their
+/// literals. In each model the objective is the offset and the weights of the literals that are false.
+///
+/// ```
+/// use pbcnf::lit;
+/// assert_eq!(pbcnf::softs(b"min: +3 x1 -2 x2 ;", None)?, (-2, vec![(3, lit(-1)), (2, lit(2))]));
+/// # Ok::<(), pbcnf::Error>(())
+/// ```
+pub fn softs(opb: &[u8], at_most: Option<i128>) -> Result<(i128, Vec<(i128, Lit)>), Error> {
+    let (bound, mut costs) = (bound_of(at_most), c::Costs::default());
+    let rows = filled(
+        64,
+        || None,
+        |put: &mut [c::Row], length, refusal| {
+            // SAFETY: as in `posed`.
+            let status = unsafe {
+                c::pbcnf_softs(
+                    opb.as_ptr(),
+                    opb.len(),
+                    &bound,
+                    put.as_mut_ptr(),
+                    put.len(),
+                    &mut costs,
+                    refusal,
+                )
+            };
+            *length = costs.length;
+            status
+        },
+    )?;
+    Ok((number(costs.offset_low, costs.offset_high), told(&rows)))
 }
 
 /// The weighted CNF of a problem and its objective, the text that the program's `wcnf` writes.

@@ -294,6 +294,17 @@ fn many_constraints() {
 }
 
 #[test]
+fn softs() {
+    let text = b"min: +3 x1 -2 x2 +1 x1 x3 ;";
+    let due = (-2, vec![(3, lit(-1)), (2, lit(2)), (1, lit(-4))]);
+    assert_eq!(pbcnf::softs(text, None).unwrap(), due);
+    assert_eq!(pbcnf::softs(b"", None).unwrap(), (0, vec![]));
+    let far = pbcnf::softs(b"min: -1180591620717411303424 x1 ;", Some(0)).unwrap();
+    assert_eq!(far, (-(1 << 70), vec![(1 << 70, lit(1))]));
+    assert!(pbcnf::softs(b"min: ;\n+1 x1 >= ;", None).is_err());
+}
+
+#[test]
 fn conditions() {
     let (two, one) = ([(1, lit(1)), (1, lit(2))], [(1, lit(2))]);
     let both = Constraint {

@@ -55,6 +55,14 @@ pub struct Refusal {
 
 #[repr(C)]
 #[derive(Clone, Copy, PartialEq, Eq, Hash, Default, Debug)]
+pub struct Costs {
+    pub offset_low: u64,
+    pub offset_high: u64,
+    pub length: u64,
+}
+
+#[repr(C)]
+#[derive(Clone, Copy, PartialEq, Eq, Hash, Default, Debug)]
 pub struct Side {
     pub relation: u32,
     pub first: u32,
@@ -95,6 +103,8 @@ extern "C" {
     pub fn pbcnf_decode(opb: *const u8, opb_len: usize, bound: *const Bound, model: *const u8, model_len: usize,
         said: *mut u8, room: usize, length: *mut u64, refusal: *mut Refusal) -> u8;
     pub fn pbcnf_map(opb: *const u8, opb_len: usize, said: *mut u8, room: usize, length: *mut u64, refusal: *mut Refusal) -> u8;
+    pub fn pbcnf_softs(opb: *const u8, opb_len: usize, bound: *const Bound, softs: *mut Row, room: usize, costs: *mut Costs,
+        refusal: *mut Refusal) -> u8;
     pub fn pbcnf_constraint(coefficients: *const u64, coefficient_words: usize, literals: *const i32, count: usize,
         side: *const Side, options: *const Options, integers: *mut i32, room: usize, size: *mut Size, refusal: *mut Refusal) -> u8;
     pub fn pbcnf_constraint_derive(coefficients: *const u64, coefficient_words: usize, literals: *const i32, count: usize,
