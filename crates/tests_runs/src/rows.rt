@@ -7,6 +7,7 @@ mod decodes;
 mod derivations;
 mod encodes;
 mod equalities;
+mod in_memory;
 mod maps;
 mod optima;
 mod probes;
@@ -35,7 +36,7 @@ fn told_of(alloc: Global, run: &Run) -> Option<String> {
     str::from_utf8(run.desk.said()).ok()?.to_string(alloc).ok()
 }
 
-// What is told of a run with these words on a desk with these files, which does not hinder it.
+// What is answered to these words on a desk with these files, which does not hinder it.
 fn told(alloc: Global, words: &str, texts: &[(&str, &[u8])]) -> Option<String> {
     let run = run_freely(alloc, words, texts).ok()?;
     told_of(alloc, &run)
@@ -78,7 +79,7 @@ fn run_widely(alloc: Global, words: &str, text: &[u8]) -> Option<Run> {
     run_over(alloc, words, &[("a", text)], 0, 4096, 1 << 20).ok()
 }
 
-// What is told of the problem `a`, the CNF `c`, the derivation `p` and the refutation `l`, which `check` does not open.
+// What is answered of the problem `a`, the CNF `c`, the derivation `p` and the refutation `l`, which `check` does not open.
 fn judged(
     alloc: Global,
     words: &str,

@@ -4,7 +4,7 @@ ghost use Rattle.pb_desk.specs.Desk.{IsClosed};
 
 use pb_base::{Bytes, Ids, NoMemory, Seq, Text};
 use pb_desk::{Desk, MemoryDesk, Named, Shelf};
-use pb_suite::{Outcome, run};
+use pb_suite::{Outcome, run, run_in_memory};
 use std::alloc::{Alloc, Global};
 
 /// How a run ended, and what it left.
@@ -33,7 +33,7 @@ pub fn named(alloc: Global, name: &str, text: &[u8]) -> Result<Named, NoMemory> 
     })
 }
 
-// These files come behind the others.
+// These files come after the others.
 fn put_files(alloc: Global, files: &mut Shelf, texts: &[(&str, &[u8])]) -> Result<(), NoMemory> {
     for &(name, text) in texts {
         files.push(named(alloc, name, text)?)?;
@@ -79,6 +79,19 @@ pub fn run_over(
 /// The same on a desk that does not hinder it.
 pub fn run_freely(alloc: Global, words: &str, texts: &[(&str, &[u8])]) -> Result<Run, NoMemory> {
     run_over(alloc, words, texts, 0, 4096, 4096)
+}
+
+/// The status and the fault line of a run on files in memory, each of which has `room` bytes, as what is said has.
+pub fn answer_in_memory(
+    alloc: Global,
+    words: &str,
+    texts: &[(&str, &[u8])],
+    room: usize,
+) -> Option<String> {
+    let owned = owned_words(alloc, words).ok()?;
+    let files = files_of(alloc, texts).ok()?;
+    let outcome = run_in_memory(alloc, &owned, files, room);
+    format!(in alloc; "{} {}", outcome.status(), outcome).ok()
 }
 
 /// The run made and said nothing.

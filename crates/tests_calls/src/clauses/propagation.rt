@@ -137,6 +137,41 @@ fn reached_by(alloc: Global, engine: &mut Engine, vars: u32, given: &str) -> Opt
     propagated(alloc, engine, vars)
 }
 
+// What an engine reaches from literals that are assumed once others, and what they reached, were taken back.
+fn reached_anew(
+    alloc: Global,
+    engine: &mut Engine,
+    vars: u32,
+    before: &str,
+    given: &str,
+) -> Option<String>
+    requires small { vars < 2 ^ 31 }
+    requires vars { engine.old.vars ≡ vars }
+{
+    let before = lits(alloc, before)?;
+    if !assume_all(engine, vars, &before) {
+        return None;
+    }
+    let _ = engine.propagate();
+    engine.reset();
+    reached_by(alloc, engine, vars, given)
+}
+
+// The same of a text.
+fn reached_after(
+    alloc: Global,
+    vars: u32,
+    text: &str,
+    before: &str,
+    given: &str,
+) -> Option<String> {
+    if vars >= 1 << 31 {
+        return None;
+    }
+    let mut engine = engine_of(alloc, vars, text)?;
+    reached_anew(alloc, &mut engine, vars, before, given)
+}
+
 pub(crate) fn reached(alloc: Global, vars: u32, text: &str, given: &str) -> Option<String> {
     if vars >= 1 << 31 {
         return None;
@@ -159,6 +194,20 @@ const CASES: &[(u32, &str, &str, &str)] = &[
 fn literals_are_propagated(rt: HostRuntime) {
     for &(vars, text, given, expected) in CASES {
         let found = reached(rt.alloc(), vars, text, given);
+        assert_found(&rt, found, expected, given);
+    }
+}
+
+// The same, with literals that are assumed before and taken back.
+const TAKEN_BACK: &[(u32, &str, &str, &str, &str)] = &[
+    (10, COUNTER, "x1 x2 x3", "x4", " x4 ~x6 ~x8 ~x10"),
+    (3, WEIGHTED, "x1", "~x1", " ~x1 x2 x3"),
+];
+
+#[test]
+fn assumptions_are_taken_back(rt: HostRuntime) {
+    for &(vars, text, before, given, expected) in TAKEN_BACK {
+        let found = reached_after(rt.alloc(), vars, text, before, given);
         assert_found(&rt, found, expected, given);
     }
 }

@@ -5,8 +5,9 @@ ghost use Rattle.pb_desk.specs.Desk.{IsClosed};
 
 use crate::cases::assert_found;
 use crate::samples::desks::named;
-use pb_base::{Ids, NoMemory, Problem, Seq};
-use pb_check::{CheckFault, Verdict, check};
+use crate::samples::lits_text;
+use pb_base::{Clauses, Ids, NoMemory, Problem, Seq};
+use pb_check::{CheckFault, Verdict, check, check_kept};
 use pb_desk::{Desk, MemoryDesk, Named};
 use pb_opb::read_opb;
 use std::alloc::Global;
@@ -59,6 +60,38 @@ fn judged<D: Desk>(alloc: Global, problem: &Problem, desk: &mut D) -> Option<Str
     }
 }
 
+// Clauses, each after a bar.
+fn clauses_text(alloc: Global, clauses: &Clauses) -> Option<String> {
+    let mut text = String::new(alloc);
+    for clause in clauses.as_slice() {
+        let line = lits_text(alloc, clause.as_slice())?;
+        text.push_str(" |").ok()?;
+        text.push_str(line.as_str()).ok()?;
+    }
+    Some(text)
+}
+
+// The verdict on the two files beside a problem, the number of variables of the CNF, and the clauses that were collected.
+fn collected<D: Desk>(alloc: Global, problem: &Problem, desk: &mut D) -> Option<String>
+    requires closed { IsClosed (D.state desk.old) }
+    requires within { IsWithinLimits problem.now }
+{
+    if desk.open(0, "cnf").is_err() || desk.open(1, "proof").is_err() {
+        return None;
+    }
+    let (verdict, vars, clauses) = check_kept(alloc, problem, desk, 0, 1).ok()?;
+    let verdict = verdict_text(alloc, verdict)?;
+    let clauses = clauses_text(alloc, &clauses)?;
+    format!(in alloc; "{verdict}; {vars}{clauses}").ok()
+}
+
+// The same beside the problem of a text.
+fn collected_of(alloc: Global, texts: &Texts, proof: &str) -> Option<String> {
+    let problem = read_opb(alloc, texts.opb.as_bytes()).ok()?;
+    let mut desk = desk_with(alloc, texts.cnf, proof, Ids::new(alloc))?;
+    collected(alloc, &problem, &mut desk)
+}
+
 // What is answered of the two files beside the problem of a text.
 fn answer<D: Desk>(alloc: Global, opb: &str, desk: &mut D) -> Option<String>
     requires { IsClosed (D.state desk.old) }
@@ -72,7 +105,7 @@ fn checked(alloc: Global, opb: &str, cnf: &str, proof: &str) -> Option<String> {
     answer(alloc, opb, &mut desk)
 }
 
-/// Whether a derivation is accepted.
+/// True if a derivation is accepted.
 pub fn is_accepted(alloc: Global, opb: &str, cnf: &str, proof: &str) -> Option<bool> {
     let found = checked(alloc, opb, cnf, proof)?;
     Some(found.as_str() == "accepted")
@@ -86,7 +119,7 @@ struct Texts {
     cnf: &'static str,
 }
 
-// The same behind the first two lines of a derivation.
+// The same after the first two lines of a derivation.
 fn told(alloc: Global, texts: &Texts, steps: &str) -> Option<String> {
     let loaded = texts.loaded;
     let proof = format!(in alloc; "pseudo-Boolean derivation profile 1\nf {loaded}\n{steps}").ok()?;
@@ -105,6 +138,19 @@ const UNIT_AND_CLAUSE: Texts = Texts {
     loaded: 1,
     cnf: "p cnf 3 2\n1 0\n2 3 0\n",
 };
+
+// Derivations for two clauses: the verdict on each, the variables of the CNF, and the clauses that are collected.
+const COLLECTED: &[(&str, &str)] = &[
+    (
+        "pseudo-Boolean derivation profile 1\nf 2\nout 1\nout 2\nend\n",
+        "accepted; 2 | x1 x2 | ~x1 ~x2",
+    ),
+    // None are collected if a step is not allowed.
+    (
+        "pseudo-Boolean derivation profile 1\nf 2\nout 1\nout 1\n",
+        "4: NotImplied { id: 1 }; 2",
+    ),
+];
 
 const STEPS_OF_TWO: &[(&str, &str)] = &[
     ("out 1\nout 2\nend\n", "accepted"),
@@ -167,7 +213,7 @@ fn long_proof(alloc: Global) -> Option<String> {
     format!(in alloc; "pseudo-Boolean derivation profile 1\n{steps}{comments}").ok()
 }
 
-// What is told of a derivation over a desk whose call of this number fails.
+// What is answered of a derivation over a desk whose call of this number fails.
 fn told_where(alloc: Global, proof: &str, call: u64) -> Option<String> {
     let fails = Ids::from_vec(vec![in alloc; call].ok()?);
     let mut desk = desk_with(alloc, TWO_CLAUSES.cnf, proof, fails)?;
@@ -188,6 +234,14 @@ fn steps_are_checked(rt: HostRuntime) {
     for &(steps, expected) in STEPS_OF_UNIT {
         let found = told(rt.alloc(), &UNIT_AND_CLAUSE, steps);
         assert_found(&rt, found, expected, steps);
+    }
+}
+
+#[test]
+fn clauses_are_collected(rt: HostRuntime) {
+    for &(proof, expected) in COLLECTED {
+        let found = collected_of(rt.alloc(), &TWO_CLAUSES, proof);
+        assert_found(&rt, found, expected, proof);
     }
 }
 

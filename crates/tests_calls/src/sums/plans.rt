@@ -88,7 +88,7 @@ const HALVES: &str =
 // At most one of three variables.
 const ONE: &str = "1 ~x1 1 ~x2 1 ~x3 >= 2 ;";
 
-// Statements, what is chosen and the budget, the first fresh variable, and the plan that is due.
+// Statements, what is chosen and the budget, the first fresh variable, and the expected plan.
 const CASES: &[(&str, Amo, Card, General, u64, u32, &str)] = &[
     (
         WEIGHTS,
