@@ -19,9 +19,9 @@ pub fn run_over<R: Env + AllocGlobal, S: System + Drop, E: Diagnostics>(
     diagnostics: &mut E,
 ) -> ExitCode
     requires closed { IsClosed (⟦<RealDesk<S> as Desk>⟧.state desk.old) }
-    // Over a system that keeps a record of its calls, and was asked nothing before, the record is kept. If each answer in it is what the
-    // files give that are supposed, the status and the line are those of what some words ask for, done as it is specified over these files;
-    // or of words that ask for nothing or were not to be had, and then nothing was made or printed. What was made and printed is what the
+    // Over a system that keeps a record of its calls, and was asked nothing before, the record is kept. Let each answer in it be what the
+    // files give that are supposed. Then the status and the line are those of what some words ask for, done as it is specified over these
+    // files; or of words that ask for nothing or were not to be had, and nothing was made or printed. What was made and printed is what the
     // record says that the system took. If the words are done, what is proved of their command holds of the files: of `encode`, that the
     // CNF which was made encodes the text.
     ensures files { let asked = ⟦<RealDesk<S> as Asks>⟧.asked in (asked desk.old).calls ≡ Some [] → IsSomeAnd (asked desk.new).calls (λ calls. IsTrue (answers_as (asked desk.new).files calls)
