@@ -54,7 +54,7 @@ struct Recorded {
 }
 
 // A run with these words over the system's files, which are supposed to hold this.
-fn recorded<R: Abort + Alloc<A = Global>>(
+fn run_recorded<R: Abort + Alloc<A = Global>>(
     rt: &R,
     system: &HostRuntime,
     words: &str,
@@ -137,7 +137,7 @@ fn is_as_recorded<R: Abort + Alloc<A = Global>>(
     said: &str,
 ) -> Option<bool> {
     let files = laid(rt.alloc(), system, texts)?;
-    let run = recorded(rt, system, words, files.as_slice()).ok()?;
+    let run = run_recorded(rt, system, words, files.as_slice()).ok()?;
     let is_told = is_recorded(rt.alloc(), &run, files.as_slice(), made, said);
     let is_given_by_none = are_given(&[], run.calls.as_slice());
     let is_held = made.is_empty() || holds(system, MADE, made);
