@@ -160,18 +160,18 @@ static void try_drawn(void) {
   }
 }
 
-/* x1 + x2 >= 2 where x3 is true, and its negation where x1 is false: then x3 is false. */
+/* x1 + x2 >= 1 where x3 is true, and x2 <= 0 where it is false. */
 static void try_example(void) {
   static const uint64_t words[] = {1, 1, 1};
-  static const int32_t literals[] = {1, 2, 2}, due[] = {1, -3, 0, 2, -3, 0, -2, 3, 0};
-  pbcnf_sum sums[2] = {pbcnf_sum_of(PBCNF_AT_LEAST, 2, 2), pbcnf_sum_of(PBCNF_AT_MOST, 0, 1)};
+  static const int32_t literals[] = {1, 2, 2}, due[] = {1, 2, -3, 0, -2, 3, 0};
+  pbcnf_sum sums[2] = {pbcnf_sum_of(PBCNF_AT_LEAST, 1, 2), pbcnf_sum_of(PBCNF_AT_MOST, 0, 1)};
   const pbcnf_options options = PBCNF_OPTIONS_DEFAULT;
   struct answer a = spoiled();
   sums[0].condition = 3;
   sums[1].condition = -3;
   a.status = pbcnf_constraints(words, 3, literals, 3, sums, 2, 4, &options, integers, ROOM, &a.size, &a.refusal);
   judge(a.status == PBCNF_DONE && a.size.length == COUNT(due) && memcmp(integers, due, sizeof due) == 0, "its integers", "conditions", 3);
-  judge(a.size.original == 3 && a.size.vars == 3 && a.size.clauses == 3, "its size", "conditions", 3);
+  judge(a.size.original == 3 && a.size.vars == 3 && a.size.clauses == 2, "its size", "conditions", 3);
 }
 
 /* Two constraints over x1 and x2, with the fresh variables from 4 on, of which the second has a condition. */

@@ -115,9 +115,9 @@ void try_many() {
   const std::string text = "* #variable= 8 #constraint= 2\n+1 x1 +1 ~x2 +1 x3 <= 1 ;\n+2 x4 +3 x5 -4 ~x6 = 1 ;\n";
   judge(pbcnf::derive_constraints(both, 9) == pbcnf::derive(text), "their derivation");
   pbcnf::Constraints conditional;
-  conditional.add({{1, 1}, {1, 2}, pbcnf::Relation::at_least, 2}, 3);
+  conditional.add({{1, 1}, {1, 2}, pbcnf::Relation::at_least, 1}, 3);
   conditional.add({1}, {2}, pbcnf::Relation::at_most, 0, -3);
-  judge(pbcnf::constraints(conditional, 4).integers() == std::vector<std::int32_t>{1, -3, 0, 2, -3, 0, -2, 3, 0}, "conditions");
+  judge(pbcnf::constraints(conditional, 4).integers() == std::vector<std::int32_t>{1, 2, -3, 0, -2, 3, 0}, "conditions");
   conditional.add({1}, {2}, pbcnf::Relation::at_most, 0, 4);
   judge(refuses([&] { pbcnf::constraints(conditional, 4); }, PBCNF_USAGE, "pbcnf: constraint 3: a number is out of its range"), "a condition");
   both.add({pbcnf::Number(0, 1ull << 40)}, {1}, pbcnf::Relation::at_least, 1);

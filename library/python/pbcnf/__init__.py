@@ -242,8 +242,8 @@ def constraints(asked: Iterable[Asked], *, first: int, **chosen: Unpack[Chosen])
 
     >>> pbcnf.constraints([([(1, 1), (1, 2), (1, 3)], "<=", 1), ([(2, 1), (1, -2)], ">=", 2)], first=4).clauses
     [[-1, -2], [-1, -3], [-2, -3], [1]]
-    >>> pbcnf.constraints([([(1, 1), (1, 2)], ">=", 2, 3)], first=4).clauses
-    [[1, -3], [2, -3]]
+    >>> pbcnf.constraints([([(1, 1), (1, 2)], ">=", 1, 3)], first=4).clauses
+    [[1, 2, -3]]
     """
     given = posed_all(asked, first, chosen)
     return _calling.put_clauses("pbcnf_constraints", given, 32 * given.amount + 256)

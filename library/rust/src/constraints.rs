@@ -59,8 +59,8 @@ impl Constraints {
     /// ```
     /// use pbcnf::{lit, Constraint, Constraints, Options, Relation};
     /// let (terms, mut constraints) = ([(1, lit(1)), (1, lit(2))], Constraints::new());
-    /// constraints.push_under(lit(3), Constraint { terms: &terms, relation: Relation::AtLeast, right: 2 });
-    /// assert_eq!(constraints.encode(4, &Options::new())?.integers(), [1, -3, 0, 2, -3, 0]);
+    /// constraints.push_under(lit(3), Constraint { terms: &terms, relation: Relation::AtLeast, right: 1 });
+    /// assert_eq!(constraints.encode(4, &Options::new())?.integers(), [1, 2, -3, 0]);
     /// # Ok::<(), pbcnf::Error>(())
     /// ```
     pub fn push_under(&mut self, condition: Lit, constraint: Constraint<'_>) {

@@ -307,10 +307,10 @@ fn softs() {
 #[test]
 fn conditions() {
     let (two, one) = ([(1, lit(1)), (1, lit(2))], [(1, lit(2))]);
-    let both = Constraint {
+    let either = Constraint {
         terms: &two,
         relation: Relation::AtLeast,
-        right: 2,
+        right: 1,
     };
     let none = Constraint {
         terms: &one,
@@ -318,10 +318,10 @@ fn conditions() {
         right: 0,
     };
     let (mut asked, options) = (Constraints::new(), Options::new());
-    asked.push_under(lit(3), both);
+    asked.push_under(lit(3), either);
     asked.push_under(!lit(3), none);
     let made = asked.encode(4, &options).unwrap();
-    assert_eq!(made.integers(), [1, -3, 0, 2, -3, 0, -2, 3, 0]);
+    assert_eq!(made.integers(), [1, 2, -3, 0, -2, 3, 0]);
     asked.push_under(!lit(4), none);
     let refused = asked.encode(4, &options).unwrap_err();
     let mistake = Mistake::Condition {
