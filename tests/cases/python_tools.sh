@@ -45,6 +45,26 @@ told_of '20 <= objective <= 20'
 expect 0 examples/minimize examples/weights.opb --general tree
 has_lines 'o 7' 's OPTIMUM FOUND'
 
+# That six bins are too few shows by their weights alone, which solvers do not see.
+awk 'BEGIN {
+    n = split("50 48 48 44 43 41 39 39 35 33 32 29 26 26 21 21 19 18", weights, " ")
+    line = "min:"
+    for (b = 1; b <= 9; b++) line = line " +1 y" b
+    print line " ;"
+    for (i = 1; i <= n; i++) {
+        line = ""
+        for (b = 1; b <= 9; b++) line = line " +1 i" i "_" b
+        print line " = 1 ;"
+    }
+    for (b = 1; b <= 9; b++) {
+        line = ""
+        for (i = 1; i <= n; i++) line = line " +" weights[i] " i" i "_" b
+        print line " -100 y" b " <= 0 ;"
+    }
+}' >bins.opb
+expect 0 timeout 600 examples/minimize -q bins.opb
+has_lines 'o 7' 's OPTIMUM FOUND'
+
 # It is interrupted in the middle of a hard problem, once it has found a solution: fields in a square, each with a lamp in sight.
 awk -v n=20 'BEGIN {
     line = "min:"

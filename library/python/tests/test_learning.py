@@ -15,7 +15,7 @@ import unittest.mock
 
 sys.path.insert(0, os.path.join(os.path.dirname(os.path.realpath(__file__)), os.pardir))
 
-from pbcnf.tools import learning, loading  # noqa: E402
+from pbcnf.tools import learning, loading, sums  # noqa: E402
 from pbcnf.tools.children import can_learn, learn  # noqa: E402
 
 NAMES = ("x3", "x1", "rain", "x7[a]", "_b")
@@ -116,6 +116,45 @@ class Learning(unittest.TestCase):
                 self.assertEqual(found, [], text)
             if os.environ.get("PBCNF"):
                 self.assertTrue(self.refutes(text, found[-1] - 1 if found else bound), text)
+
+    def test_sums(self):
+        """What one sum refutes: items that weigh more than so few bins hold, and a pigeon more than holes. The program takes the line."""
+        weights = [50, 48, 48, 44, 43, 41, 39, 39, 35, 33, 32, 29, 26, 26, 21, 21, 19, 18]
+        text = "min: %s ;\n" % " ".join("+1 y%d" % bin for bin in range(9))
+        for item in range(len(weights)):
+            text += " ".join("+1 i%d_%d" % (item, bin) for bin in range(9)) + " = 1 ;\n"
+        for bin in range(9):
+            text += " ".join("+%d i%d_%d" % (weight, item, bin) for item, weight in enumerate(weights)) + " -100 y%d <= 0 ;\n" % bin
+        loaded = loading.load(text.encode())
+        made = sums.Sums(loaded.constraints)
+        for bound, wanted in ((6, True), (5, True), (7, False)):
+            words = made.refute(loading.at_most(loaded.objective, bound))
+            self.assertEqual(words is not None, wanted)
+            if words is not None and os.environ.get("PBCNF"):
+                last = len(loaded.constraints) + 1
+                self.put("proof", "pseudo-Boolean derivation profile 1\nf %d\npol %s\nrup >= 1 ; %d\nout %d\nend\n" % (last, words, last + 1, last + 2))
+                self.put("cnf", "p cnf %d 1\n0\n" % loaded.variables)
+                self.assertTrue(self.refutes(text, bound))
+
+    def test_drawn_sums(self):
+        """What a sum refutes has no solution, and the program says so too."""
+        draw = random.Random(8)
+        count = 0
+        for _ in range(300):
+            text = drawn(draw, draw.randint(1, len(NAMES)))
+            loaded = loading.load(text.encode())
+            bound = min(solutions(text), default=0) - draw.randint(-1, 9)
+            words = sums.Sums(loaded.constraints).refute(loading.at_most(loaded.objective, bound))
+            if words is None:
+                continue
+            count += 1
+            self.assertFalse(any(value <= bound for value in solutions(text)), text)
+            if os.environ.get("PBCNF"):
+                last = len(loaded.constraints) + 1
+                self.put("proof", "pseudo-Boolean derivation profile 1\nf %d\npol %s\nrup >= 1 ; %d\nout %d\nend\n" % (last, words, last + 1, last + 2))
+                self.put("cnf", "p cnf %d 1\n0\n" % loaded.variables)
+                self.assertTrue(self.refutes(text, bound), text)
+        self.assertGreater(count, 30)
 
     def test_restarts_and_forgets(self):
         # Pigeons, each in a hole, which no clause of few literals refutes.

@@ -27,7 +27,9 @@ TOP = os.path.dirname(os.path.dirname(os.path.dirname(HERE)))
 GUARDS = os.path.join(TOP, "examples", "guards.opb")
 PIGEONS = os.path.join(TOP, "examples", "pigeons.opb")
 STARS = "min: +3 a +2 ~b +4 c -1 d ;\n+1 a +1 b +1 c >= 2 ;\n+2 a +1 b +1 d >= 2 ;\n+1 ~a +1 ~d >= 1 ;\n"
-# An optimizer that finds the best solution of it. Then just that is asked, which this solver never answers.
+# Its optimum is known by no sum of statements.
+CYCLE = "min: +3 a +2 b +4 c +3 d +2 e ;\n+1 a +1 b >= 1 ;\n+1 b +1 c >= 1 ;\n+1 c +1 d >= 1 ;\n+1 d +1 e >= 1 ;\n+1 e +1 a >= 1 ;\n"
+# An optimizer that finds the best solution of STARS. Then just that is asked, which this solver never answers.
 BEST = ("echo v 1 2 -3 -4 0; echo o 5; echo s OPTIMUM FOUND",)
 SLOW = "case \" $* \" in *' -c '* | *'cnf.1 '*) ;; *' --help '*) ;; *) exec sleep 900 ;; esac"
 # Two of three are taken, and at most one.
@@ -236,7 +238,7 @@ class Minimizing(Commands):
 
     def test_undecided_steps_go_on(self):
         # The one of both that looks from above halves twice before it asks for more.
-        status, said, _ = self.interrupt(signal.SIGINT, "give-up", 2, "minimize", self.put("stars.opb", STARS), calls=12)
+        status, said, _ = self.interrupt(signal.SIGINT, "give-up", 2, "minimize", self.put("cycle.opb", CYCLE), calls=12)
         self.assertEqual((status, said[-2]), (75, "s SATISFIABLE"))
         with open(self.calls) as file:
             limits = [call.split()[call.split().index("-c") + 1] for call in file if "-c" in call.split()]

@@ -258,6 +258,7 @@ class Bounds(unittest.TestCase):
         for seed in range(300):
             told = []
             oracle = Drawn(random.Random(seed), (None, "good", "bad", "sure")[seed // 4 % 4])
+            oracle.sums = seed % 3 == 0
             looking = search.Search(oracle, oracle.possible, lambda found: told.append((found.incumbent.value, found.lower)), 1 + seed % 4)
             looking.run()
             self.assertEqual(looking.found.incumbent.value, min(oracle.values))
@@ -348,6 +349,7 @@ class Drawn:
         self.optimizer = optimizer
         self.calls = 0
         self.patient = False
+        self.sums = False
         self.open = []
         self.refused = []
         self.least = draw.choice([-1, 1]) * draw.randint(0, 10 ** draw.randint(0, 30))
@@ -359,6 +361,13 @@ class Drawn:
 
     def pose_to_all(self, bound):
         return self.pose(bound)
+
+    def sums_up(self, bound):
+        """Seldom, and only where it is so."""
+        is_plain = self.sums and self.draw.random() < 0.3 and min(self.values) > bound
+        if is_plain:
+            self.refused.append(bound)
+        return is_plain
 
     def pose(self, bound, effort=None):
         self.calls += 1

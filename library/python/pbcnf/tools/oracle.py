@@ -14,15 +14,20 @@ from typing import List, Optional, Protocol, Sequence, Tuple, Union
 from pbcnf.tools import optimizers
 from pbcnf.tools.children import can_learn
 from pbcnf.tools.encodings import Encodings
+from pbcnf.tools.loading import Loaded, at_most, load
 from pbcnf.tools.optimizers import Descent
 from pbcnf.tools.program import Program, Refutation, Solution, Summary, bound_option
 from pbcnf.tools.reasons import is_long, make_lrat, takes_long
 from pbcnf.tools.solvers import Attempt, Effort, Files, Learner, Reasons, Run, Solver, Team, Verdict
 from pbcnf.tools.statuses import Status, Stop
+from pbcnf.tools.sums import Sums
 from pbcnf.tools.watch import Running, Watch
 from pbcnf.tools.workspace import Workspace, put_whole
 
 Answer = Union[Solution, Verdict]
+# Of a longer text no sum of constraints is looked for, and of none more often than so many times.
+_SHORT = 200000
+_SUMS = 20
 # A CNF of no more clauses is encoded at once, and so many seconds a solver has for it alone.
 _FEW = 20000
 _HEAD_START = 0.1
@@ -86,6 +91,10 @@ class Oracle:
         # That the search over the constraints is asked too, and the derivation that it wrote.
         self._learns = True
         self._learned = ""
+        # How often a sum of constraints may still be looked for, which is false, and the bound that one has refuted.
+        self._sums_left = _SUMS if len(program.text) <= _SHORT and team.prover is not None else 0
+        self._sums: Optional[Tuple[Sums, Loaded]] = None
+        self._summed: Optional[Tuple[int, Refutation]] = None
 
     def ask(self, bound: Optional[int], effort: Optional[Effort] = None) -> Answer:
         """A solution of at most this value, or that there is none, or that the effort was not enough to know."""
@@ -106,6 +115,26 @@ class Oracle:
         if not is_small or not self._watch.ends_within(question.first.run.running, _HEAD_START):
             question.attempts += (others or self._learner(bound)) + self._rival(question.cnf)
         return question
+
+    def sums_up(self, bound: int) -> bool:
+        """Whether one sum of constraints is found which refutes that there is a solution of at most this value."""
+        if self._sums_left == 0:
+            return False
+        self._sums_left -= 1
+        if self._sums is None:
+            loaded = load(self._program.text)
+            self._sums = Sums(loaded.constraints), loaded
+        sums, loaded = self._sums
+        words = sums.refute(at_most(loaded.objective or [], bound))
+        if words is not None:
+            self._summed = bound, self._added_up(words, len(loaded.constraints) + 1, loaded.variables)
+        return words is not None
+
+    def _added_up(self, words: str, count: int, variables: int) -> Refutation:
+        """The files of a derivation of the empty clause, which is all that its CNF has, by such a sum of so many constraints."""
+        text = "pseudo-Boolean derivation profile 1\nf %d\npol %s\nrup >= 1 ; %d\nout %d\nend\n" % (count, words, count + 1, count + 2)
+        write = self._workspace.write
+        return Refutation(write("cnf.sum", b"p cnf %d 1\n0\n" % variables), write("proof.sum", text.encode("ascii")), write("lrat.sum", b""))
 
     def _learner(self, bound: Optional[int]) -> List[Attempt]:
         """Has the search over the constraints look for a refutation, if it can."""
@@ -171,10 +200,10 @@ class Oracle:
         try:
             self._program.optimum(best, refutation)
         except Stop:
-            if refutation.proof != self._learned:
+            if refutation.proof != self._learned and self._summed is None:
                 raise
-            # What was learned is refused: the prover's reasons are of other making.
-            self._refused, self._learns = None, False
+            # What was learned or added up is refused: the prover's reasons are of other making.
+            self._refused, self._summed, self._learns = None, None, False
             refutation = self._refutation(best.value - 1)
             self._program.optimum(best, refutation)
         if keep is not None:
@@ -185,6 +214,8 @@ class Oracle:
         """The refutation that there is a solution within the bound: that of the solver's run where the solver is the prover, else that
         of one more run. The derivation is that of the same CNF, which is written once more beside it."""
         solver, prover = self._team.solver, self._team.prover
+        if self._summed is not None and self._summed[0] == bound:
+            return self._summed[1]
         if prover is None:
             raise Stop(Status.UNPROVED, "%s finds nothing better, and gives no reasons that would refute it" % solver.name)
         if self._refused is None or self._refused.bound != bound or solver is not prover:

@@ -27,6 +27,9 @@ class Asks(Protocol):
     def wait(self, asked: Sequence[Asked]) -> Tuple[Asked, Answer]:
         """The first answer to one of these: a solution, or that there is none, or that the effort was not enough to know."""
 
+    def sums_up(self, bound: int) -> bool:
+        """Whether it is plain at once that there is no solution of at most this value."""
+
     def drop(self, one: Asked) -> None:
         """Asks it no more."""
 
@@ -58,6 +61,8 @@ class Search:
         self._jobs = jobs
         self._seekers: List[Seeker] = []
         self._descent: Optional[Descent] = None
+        # The last best solution that was hard to better.
+        self._hard = -1
         self.found = Found()
 
     def run(self) -> None:
@@ -71,8 +76,8 @@ class Search:
 
     def _descend(self, values: Values, upper: int) -> None:
         """Goes on until nothing is left between the places of the lower bound and of the incumbent."""
+        self.found.lower = values.at(0)
         lower = 0
-        self.found.lower = values.at(lower)
         if lower < upper and self._jobs > 1:
             self._descent = self._oracle.descend(values.at(upper) - 1)
         self._seekers = seekers(self._jobs - (self._descent is not None))
@@ -92,12 +97,26 @@ class Search:
                 lower = one.place + 1
                 self.found.lower = values.at(lower)
                 self._report(self.found)
+            else:
+                lower = self._sum_up(values, lower, upper)
             if one is not None:
                 posed.remove(one)
                 _tell(one.seeker, answer)
             self._drop(posed, lower, upper)
         if self._descent is not None:
             self._oracle.drop(self._descent)
+
+    def _sum_up(self, values: Values, lower: int, upper: int) -> int:
+        """The place of the lower bound, behind what was too hard: that of the best solution, if one sum refutes that any is better. That is
+        tried once for each."""
+        if self._hard == upper:
+            return lower
+        self._hard = upper
+        if lower < upper and self._oracle.sums_up(values.at(upper) - 1):
+            lower = upper
+            self.found.lower = values.at(lower)
+            self._report(self.found)
+        return lower
 
     def _pose(self, posed: List[_Posed], values: Values, lower: int, upper: int) -> None:
         """Has each seeker ask something that no other one asks."""
