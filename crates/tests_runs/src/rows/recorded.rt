@@ -11,22 +11,25 @@ use std::alloc::{Alloc, Global};
 use std::fs;
 use std::process::Abort;
 
-// A record of calls, the newest first.
+// A record of calls, the newest first, over files that are supposed to hold this. After each call it asks whether all were answered as
+// these files give, and writes to files of the system what it says.
 #[derive(Drop)]
 struct Record<'a, R: Abort + Alloc<A = Global>> {
     rt: &'a R,
-    calls: &'a mut Vec<Kept>,
+    system: &'a HostRuntime,
+    files: &'a [Named],
+    calls: Vec<Kept>,
 }
 
 impl<'a, R: Abort + Alloc<A = Global>> Keeper for Record<'a, R> {
     ghost use Rattle.std.specs.Prelude.{map};
     ghost use Rattle.tests_runs.specs.Records.{call_of};
 
-    ghost kept = { λ keeper. map call_of keeper.calls.now.items };
+    ghost kept = { λ keeper. map call_of keeper.calls.items };
 
     fn keep(&mut self, call: Kept) {
         match self.calls.insert(0, call) {
-            Ok(()) => (),
+            Ok(()) => judge(self.rt, self.system, self.files, self.calls.as_slice()),
             Err(_) => self.rt.abort(),
         }
     }
@@ -44,35 +47,6 @@ impl<'a, R: Abort + Alloc<A = Global>> Keeper for Record<'a, R> {
             Err(_) => self.rt.abort(),
         }
     }
-}
-
-// How a run ended, and its calls, the newest first.
-#[derive(Drop)]
-struct Recorded {
-    outcome: Outcome,
-    calls: Vec<Kept>,
-}
-
-// A run with these words over the system's files, which are supposed to hold this.
-fn run_recorded<R: Abort + Alloc<A = Global>>(
-    rt: &R,
-    system: &HostRuntime,
-    words: &str,
-    files: &[Named],
-) -> Result<Recorded, NoMemory> {
-    let owned = owned_words(rt.alloc(), words)?;
-    let mut calls = Vec::new(rt.alloc());
-    let keeper = Record {
-        rt,
-        calls: &mut calls,
-    };
-    let recorder = Recorder {
-        system: Host::new(system),
-        files,
-        keeper,
-    };
-    let outcome = ended(rt.alloc(), &owned, &mut RealDesk::new(recorder));
-    Ok(Recorded { outcome, calls })
 }
 
 // The part of a piece that the call gave to the file of slot 0, or else the part that it said.
@@ -95,15 +69,6 @@ fn told(alloc: Global, calls: &[Kept], is_said: bool) -> Option<Vec<u8>> {
     Some(bytes)
 }
 
-// By its record the run is done, made this of slot 0 and said this, and each call was answered as the files give.
-fn is_recorded(alloc: Global, run: &Recorded, files: &[Named], made: &str, said: &str) -> bool {
-    let calls = run.calls.as_slice();
-    run.outcome.status() == 0
-        && are_given(files, calls)
-        && told(alloc, calls, false).as_deref() == Some(made.as_bytes())
-        && told(alloc, calls, true).as_deref() == Some(said.as_bytes())
-}
-
 // Lays the texts into files of the system, and says what these hold.
 fn laid(alloc: Global, system: &HostRuntime, texts: &[(&str, &str)]) -> Option<Shelf> {
     let mut files = Seq::new(alloc);
@@ -123,11 +88,58 @@ fn holds(system: &HostRuntime, name: &str, text: &str) -> bool {
     }
 }
 
-// The file that a run makes.
+// The files that a run makes, and those that say what its record says of it.
 const MADE: &str = "runs_made.tmp";
 
-// Whether a run over files with these texts is as its record says, which is not so if no file is supposed; and whether what the
-// record says was made is in the system's file.
+const TOLD: [&str; 2] = ["runs_told_made.tmp", "runs_told_said.tmp"];
+
+// Whether each call was answered as the files give, and not as no file gives; it writes what the record says.
+fn is_told(alloc: Global, system: &HostRuntime, files: &[Named], calls: &[Kept]) -> Option<bool> {
+    let made = told(alloc, calls, false)?;
+    let said = told(alloc, calls, true)?;
+    fs::write(system, TOLD[0], made.as_slice()).ok()?;
+    fs::write(system, TOLD[1], said.as_slice()).ok()?;
+    Some(are_given(files, calls) && !are_given(&[], calls))
+}
+
+// The same, or the test ends.
+fn judge<R: Abort + Alloc<A = Global>>(
+    rt: &R,
+    system: &HostRuntime,
+    files: &[Named],
+    calls: &[Kept],
+) {
+    let is_given = is_told(rt.alloc(), system, files, calls);
+    assert!(rt;
+        is_given == Some(true),
+        "a call is not answered as the files give"
+    );
+}
+
+// How a run with these words over the system's files ends, which are supposed to hold this.
+fn outcome_of<R: Abort + Alloc<A = Global>>(
+    rt: &R,
+    system: &HostRuntime,
+    words: &str,
+    files: &[Named],
+) -> Result<Outcome, NoMemory> {
+    let owned = owned_words(rt.alloc(), words)?;
+    let keeper = Record {
+        rt,
+        system,
+        files,
+        calls: Vec::new(rt.alloc()),
+    };
+    let recorder = Recorder {
+        system: Host::new(system),
+        files,
+        keeper,
+    };
+    Ok(ended(rt.alloc(), &owned, &mut RealDesk::new(recorder)))
+}
+
+// Whether a run over files with these texts is done, and what it made of slot 0 and said is this, by its record and by the system's
+// file.
 fn is_as_recorded<R: Abort + Alloc<A = Global>>(
     rt: &R,
     system: &HostRuntime,
@@ -137,11 +149,10 @@ fn is_as_recorded<R: Abort + Alloc<A = Global>>(
     said: &str,
 ) -> Option<bool> {
     let files = laid(rt.alloc(), system, texts)?;
-    let run = run_recorded(rt, system, words, files.as_slice()).ok()?;
-    let is_told = is_recorded(rt.alloc(), &run, files.as_slice(), made, said);
-    let is_given_by_none = are_given(&[], run.calls.as_slice());
+    let outcome = outcome_of(rt, system, words, files.as_slice()).ok()?;
     let is_held = made.is_empty() || holds(system, MADE, made);
-    Some(is_told && !is_given_by_none && is_held)
+    let is_said = holds(system, TOLD[0], made) && holds(system, TOLD[1], said);
+    Some(outcome.status() == 0 && is_held && is_said)
 }
 
 // What a run is asked, the texts of its files, what it makes of slot 0 and what it says.
@@ -169,7 +180,14 @@ const CASES: &[(&str, &[(&str, &str)], &str, &str)] = &[
 
 // Takes the files away.
 fn clear(system: &HostRuntime) {
-    for name in ["runs_opb.tmp", "runs_cnf.tmp", "runs_proof.tmp", MADE] {
+    for name in [
+        "runs_opb.tmp",
+        "runs_cnf.tmp",
+        "runs_proof.tmp",
+        MADE,
+        TOLD[0],
+        TOLD[1],
+    ] {
         let _ = fs::remove_file(system, name);
     }
 }
