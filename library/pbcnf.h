@@ -275,7 +275,12 @@ uint8_t pbcnf_wcnf(const uint8_t *opb, size_t opb_len, const pbcnf_options *opti
 /* What the objective costs, for a MaxSAT solver beside the clauses of pbcnf_clauses: each row's literal costs its value where it is false,
  * and in each model the objective is the offset and the values of the rows whose literals are false. The values are above 0, and the rows
  * those of the soft lines of `pbcnf wcnf`; of a problem without an objective there are none, and the offset is 0.
- * Statuses 0, 1, 3, 5, 6. */
+ * Statuses 0, 1, 3, 5, 6.
+ *
+ *      pbcnf_costs costs;
+ *      assert(pbcnf_softs(opb, opb_len, &bound, rows, 10, &costs, &refusal) == PBCNF_DONE);
+ *      assert(costs.length == 2 && rows[0].literal == -1 && rows[0].low == 3 && rows[1].literal == -2 && rows[1].low == 2);
+ */
 uint8_t pbcnf_softs(const uint8_t *opb, size_t opb_len, const pbcnf_bound *bound, pbcnf_row *softs, size_t room, pbcnf_costs *costs,
                     pbcnf_refusal *refusal);
 
