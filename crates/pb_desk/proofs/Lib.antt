@@ -5,6 +5,7 @@ pub mod Readings
 pub mod Shelves
 pub mod Slots
 pub mod Tells
+pub mod LastPieces
 pub mod LineLemmas
 pub mod LimitLemmas
 pub mod PieceLemmas

@@ -1,17 +1,18 @@
 -- How a call leaves a desk (our own).
-use Rattle.std.specs.Prelude.{ℕ, Bool, ◌+◌, ◌≤◌, ◌<◌, ◌≡◌, ◌⊎◌, false, List, [], ◌∷◌, take, length, is_some, IfSome, IsSomeAnd, IsTrue, All}
+use Rattle.std.specs.Prelude.{ℕ, Bool, ◌+◌, ◌≤◌, ◌<◌, ◌≡◌, ◌==◌, ◌&&◌, ◌⊎◌, nat_le, false, List, [], ◌∷◌, take, length, is_some, IfSome, IsSomeAnd, IsTrue, All}
 use Rattle.std.specs.declared.option.Option.{Option}
 use Rattle.std.specs.declared.option.Option.TheVariants.{Some}
 use Rattle.pb_base.specs.FaultCounts.{Rose}
 use Rattle.pb_desk.specs.View.{Made, Told, View, bytes_in, taken}
 
--- A desk, as contracts see it: what it shows, how many reads and writes have failed, of which slots the end was met, and whether each
--- answer up to now was as the desk tells.
+-- A desk, as contracts see it: what it shows, how many reads and writes have failed, of which slots the end was met, of which files the
+-- last piece was written, and whether each answer up to now was as the desk tells.
 pub record DeskState : Type 0 where
   pub view : View
   pub read_faults : ℕ
   pub write_faults : ℕ
   pub ended : ℕ → Bool
+  pub finished : ℕ → Bool
   pub keeps : Bool
 
 -- Nothing failed: the view changed so, and the counts of faults stay. Which ends were met may have changed. A desk that has ceased to keep
@@ -82,6 +83,11 @@ pub record Gives (left : List ℕ) (count : ℕ) (room : List ℕ) : Type 0 wher
 pub record TakesSome (piece : List ℕ) (count : ℕ) : Type 0 where
   pub at_most : count ≤ length piece
   pub some : 0 < length piece → 0 < count
+
+-- So many bytes of a piece were taken, and that ends its file: the piece is smaller than a whole one, and was taken whole. A whole one is a
+-- full buffer of 64 KiB, of which 64 bytes may be free.
+abbrev pub is_last : List ℕ → ℕ → Bool
+is_last piece count = nat_le (length piece) 65472 && count == length piece
 
 -- a file of the name, or of the slot, was made
 abbrev pub HasName : List ℕ → List Made → Type 0

@@ -45,6 +45,7 @@ state_of desk = record {
   read_faults = desk.read_faults;
   write_faults = desk.write_faults;
   ended = λ slot. slice_index_or desk.over slot false;
+  finished = λ slot. slice_index_or desk.finished slot false;
   keeps = true;
 }
 

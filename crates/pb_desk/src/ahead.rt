@@ -27,7 +27,7 @@ impl Model for ReadBuffer {
 
     ghost view = { λ a. record { bytes = take (a.end - a.start) (drop a.start a.room.items); over = a.is_over } };
 
-    ghost invariant = { λ a. (a.start ≤ a.end) × (a.end ≤ length a.room.items) × (0 < length a.room.items) };
+    ghost invariant = { λ a. (a.start ≤ a.end) × (a.end ≤ length a.room.items) × (65536 ≤ length a.room.items) };
 }
 
 impl ReadBuffer {

@@ -1,14 +1,25 @@
 // The trait, and what each call promises.
 ghost use Rattle.std.specs.Prelude.{◌≡◌, ◌≤◌, ◌<◌, ◌==◌, ℕ, length, take, false, IsTrue, IsSome, IsNone, IfSome, IfOk, OnOk, OnErr};
 ghost use Rattle.pb_desk.specs.View.{put, opened, taken, created, wrote, closed, spoke};
-ghost use Rattle.pb_desk.specs.Desk.{DeskState, Reads, Reaches, FailsToRead, FailsToWrite, same, IsSteady, IfTold, IfKept, IsTold, Gives, TakesSome, HasName, HasSlot, IsTaken, LacksRoom, FitsRoom, written, words};
+ghost use Rattle.pb_desk.specs.Desk.{DeskState, Reads, Reaches, FailsToRead, FailsToWrite, same, IsSteady, IfTold, IfKept, IsTold, Gives, TakesSome, is_last, HasName, HasSlot, IsTaken, LacksRoom, FitsRoom, written, words};
 
 use pb_base::Failed;
 
+// A piece of at most so many bytes is smaller than a whole one.
+const LAST: usize = 65_472;
+
+/// True if a piece of which so many bytes were taken ends its file.
+pub fn is_file_end(piece: &[u8], count: usize) -> bool
+    // It does iff it is smaller than a whole one and was taken whole.
+    ensures { result ≡ is_last piece.now count }
+{
+    piece.len() <= LAST && count == piece.len()
+}
+
 /// Files to read in slots 0 to 4, files to write in slots 0 and 1, and a place to speak.
 pub trait Desk {
-    /// What the desk shows, how often reading and writing have failed, of which slots the end was met, and whether it has kept to what it
-    /// tells.
+    /// What the desk shows, how often reading and writing have failed, of which slots the end was met, of which files the last piece was
+    /// written, and whether it has kept to what it tells.
     ghost state: { Self → DeskState };
 
     /// Opens a file to read.
@@ -28,11 +39,12 @@ pub trait Desk {
         // On failure the ends that were met are as they were.
         ensures no_end { OnErr result ((state self.new).ended ≡ (state self.old).ended) };
 
-    /// Reads the next bytes into the room. None into some room is the end, behind which nothing is asked for.
+    /// Reads the next bytes into the room, which is for a whole piece. None are the end, behind which nothing is asked for.
     fn read(&mut self, slot: u8, room: &mut [u8]) -> Result<usize, Failed>
         requires kind { slot < 5 }
         requires open { IsTrue ((state self.old).view.reading slot) }
         requires not_ended { (state self.old).ended slot ≡ false }
+        requires whole { 65536 ≤ length room.old }
         // On success so many bytes were read from the slot, and no count of failed calls changed.
         ensures ok { IfOk result (λ count. Reads (taken slot count) (state self.old) (state self.new)) }
         // On failure the count of failed reads rose by one, or has reached 2^64 - 1, and nothing else changed.
@@ -54,6 +66,8 @@ pub trait Desk {
         requires free { (state self.old).view.writing slot ≡ false }
         // On success an empty file of this name is open in the slot, and no count changed.
         ensures ok { OnOk result (Reaches (created slot name.now) (state self.old) (state self.new)) }
+        // On success the last piece of the file was not written, and of other files it is as it was.
+        ensures begun { OnOk result ((state self.new).finished ≡ put (state self.old).finished slot false) }
         // On failure the count of failed writes rose by one, or has reached 2^64 - 1, and nothing else changed.
         ensures failed { OnErr result (FailsToWrite same (state self.old) (state self.new)) }
         // A steady desk makes no name twice.
@@ -61,10 +75,12 @@ pub trait Desk {
         // On a steady desk it fails only if the name or the slot was used, or the name has more than 255 bytes.
         ensures steady { IsSteady (state self.old) → OnErr result (IsTold (state self.old) (λ t. IsTaken slot name.now t.made)) };
 
-    /// Appends a first part of the piece.
+    /// Appends a first part of the piece. A piece that is smaller than a whole one and is taken whole is the last one of its file: a file is
+    /// written by pieces of more than 65,472 bytes, but for the last one.
     fn write(&mut self, slot: u8, piece: &[u8]) -> Result<usize, Failed>
         requires kind { slot < 2 }
         requires open { IsTrue ((state self.old).view.writing slot) }
+        requires not_finished { (state self.old).finished slot ≡ false }
         // On success a first part of the piece was appended, and no count changed.
         ensures ok { IfOk result (λ count. Reaches (wrote slot (take count piece.now)) (state self.old) (state self.new)) }
         // On failure the count of failed writes rose by one, or has reached 2^64 - 1, and nothing else changed.
@@ -72,7 +88,12 @@ pub trait Desk {
         // Of a piece with bytes at least one was written.
         ensures count { IfOk result (TakesSome piece.now) }
         // On a steady desk it fails only if there is no room for a byte.
-        ensures steady { IsSteady (state self.old) → OnErr result (LacksRoom (written slot) 1 (state self.old)) };
+        ensures steady { IsSteady (state self.old) → OnErr result (LacksRoom (written slot) 1 (state self.old)) }
+        // On success the last piece of the file was written iff the piece is smaller than a whole one and was taken whole; of other files it
+        // is as it was.
+        ensures finished { IfOk result (λ count. (state self.new).finished ≡ put (state self.old).finished slot (is_last piece.now count)) }
+        // On failure the files whose last pieces were written are as they were.
+        ensures unfinished { OnErr result ((state self.new).finished ≡ (state self.old).finished) };
 
     /// Ends a file.
     fn close(&mut self, slot: u8) -> Result<(), Failed>

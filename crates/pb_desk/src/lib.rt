@@ -14,7 +14,7 @@ mod piece;
 mod shelf;
 mod whole;
 
-pub use desk::Desk;
+pub use desk::{Desk, is_file_end};
 pub use limits::LineLimits;
 pub use lines::{LineFault, LineReader};
 pub use memory::MemoryDesk;

@@ -6,6 +6,7 @@ ghost use Rattle.std.specs.Prelude.{◌≡◌, ◌≤◌};
 
 use crate::Desk;
 use crate::buffer::Buffer;
+use crate::desk::is_file_end;
 use crate::fault_plan::FaultPlan;
 use crate::memory_file::{MemoryFile, NAME_ROOM};
 use crate::shelf::{Reading, Shelf, find, rest_of};
@@ -27,6 +28,7 @@ pub struct MemoryDesk {
     read_faults: FaultCount,
     write_faults: FaultCount,
     over: [bool; 5],
+    finished: [bool; 2],
     ghost some_piece: { 1 ≤ piece },
     ghost rooms: { (zero.bytes.room ≡ room) × (one.bytes.room ≡ room) × (said.room ≡ room) },
     ghost names: { (zero.name.room ≡ 255) × (one.name.room ≡ 255) },
@@ -48,6 +50,7 @@ impl Drop for MemoryDesk {
             read_faults: _,
             write_faults: _,
             over: _,
+            finished: _,
         } = self;
     }
 }
@@ -95,6 +98,7 @@ impl MemoryDesk {
             read_faults: FaultCount::new(),
             write_faults: FaultCount::new(),
             over: [false; 5],
+            finished: [false; 2],
         })
     }
 
@@ -140,7 +144,7 @@ impl MemoryDesk {
 impl Desk for MemoryDesk {
     ghost use Rattle.std.specs.Prelude.{◌≡◌, ◌≤◌, ◌<◌, ◌↔◌, ◌⊎◌, ◌==◌, length, take, drop, false, IsTrue, IsSome, IsNone, IsErr, IfOk, OnOk, OnErr};
     ghost use Rattle.pb_desk.specs.View.{put, opened, taken, created, wrote, closed, spoke};
-    ghost use Rattle.pb_desk.specs.Desk.{Reads, Reaches, FailsToRead, FailsToWrite, same, IsSteady, IfTold, IfKept, IsTold, Gives, TakesSome, HasName, IsTaken, LacksRoom, written, words};
+    ghost use Rattle.pb_desk.specs.Desk.{Reads, Reaches, FailsToRead, FailsToWrite, same, IsSteady, IfTold, IfKept, IsTold, Gives, TakesSome, is_last, HasName, IsTaken, LacksRoom, written, words};
     ghost use Rattle.pb_desk.specs.Memory.{counted, is_failing};
     ghost use Rattle.pb_desk.specs.MemoryState.{state_of, plan_of};
     ghost use Rattle.pb_desk.specs.inner.MemoryLaws.{memory_has_file, memory_tells, memory_keeps, memory_has_room, memory_fits};
@@ -211,6 +215,7 @@ impl Desk for MemoryDesk {
         requires kind { slot < 2 }
         requires free { (state_of self.old).view.writing slot ≡ false }
         ensures ok { OnOk result (Reaches (created slot name.now) (state_of self.old) (state_of self.new)) }
+        ensures begun { OnOk result ((state_of self.new).finished ≡ put (state_of self.old).finished slot false) }
         ensures failed { OnErr result (FailsToWrite same (state_of self.old) (state_of self.new)) }
         ensures fresh { IsSteady (state_of self.old) → OnOk result (IfTold (state_of self.old) (λ t. HasName name.now t.made → ⊥)) }
         ensures steady { IsSteady (state_of self.old) → OnErr result (IsTold (state_of self.old) (λ t. IsTaken slot name.now t.made)) }
@@ -224,6 +229,7 @@ impl Desk for MemoryDesk {
         if self.fault_plan.is_failing() || is_taken || name.len() > NAME_ROOM {
             return Err(self.write_faults.rise());
         }
+        self.finished[slot as usize] = false;
         if slot == 0 {
             self.zero.make(name);
             self.one_is_newest = false;
@@ -237,10 +243,13 @@ impl Desk for MemoryDesk {
     fn write(&mut self, slot: u8, piece: &[u8]) -> Result<usize, Failed>
         requires kind { slot < 2 }
         requires open { IsTrue ((state_of self.old).view.writing slot) }
+        requires not_finished { (state_of self.old).finished slot ≡ false }
         ensures ok { IfOk result (λ count. Reaches (wrote slot (take count piece.now)) (state_of self.old) (state_of self.new)) }
         ensures failed { OnErr result (FailsToWrite same (state_of self.old) (state_of self.new)) }
         ensures count { IfOk result (TakesSome piece.now) }
         ensures steady { IsSteady (state_of self.old) → OnErr result (LacksRoom (written slot) 1 (state_of self.old)) }
+        ensures finished { IfOk result (λ count. (state_of self.new).finished ≡ put (state_of self.old).finished slot (is_last piece.now count)) }
+        ensures unfinished { OnErr result ((state_of self.new).finished ≡ (state_of self.old).finished) }
         ensures counted { plan_of self.new ≡ counted (plan_of self.old) }
         // It fails iff the plan says so or there is no room for a byte.
         ensures fails { IsErr result ↔ (IsTrue (is_failing (plan_of self.old)) ⊎ LacksRoom (written slot) 1 (state_of self.old)) }
@@ -253,9 +262,13 @@ impl Desk for MemoryDesk {
         }
         let part = &piece[..piece.len().min(self.piece)];
         if slot == 0 {
-            Ok(self.zero.bytes.append(part))
+            let count = self.zero.bytes.append(part);
+            self.finished[0] = is_file_end(piece, count);
+            Ok(count)
         } else {
-            Ok(self.one.bytes.append(part))
+            let count = self.one.bytes.append(part);
+            self.finished[1] = is_file_end(piece, count);
+            Ok(count)
         }
     }
 

@@ -13,7 +13,7 @@ const PIECE: usize = 65_536;
 
 /// The room for a piece of a text.
 pub fn make_room(alloc: Global) -> Result<Vec<u8>, AllocError>
-    ensures { IfOk result (λ room. 0 < length room.items) }
+    ensures { IfOk result (λ room. PIECE ≤ length room.items) }
 {
     vec![in alloc; 0u8; PIECE]
 }
@@ -52,7 +52,7 @@ impl From<AllocError> for TextFault {
     }
 }
 
-// Reads all that a slot has left, by pieces of at most a room's length.
+// Reads all that a slot has left, by pieces of a room's length.
 fn read_pieces<D: Desk>(
     alloc: Global,
     desk: &mut D,
@@ -63,7 +63,7 @@ fn read_pieces<D: Desk>(
     requires kind { slot < 5 }
     requires open { IsTrue ((D.state desk.old).view.reading slot) }
     requires not_ended { (D.state desk.old).ended slot ≡ false }
-    requires some_room { 0 < length room.old }
+    requires whole_piece { PIECE ≤ length room.old }
     ensures taken { IfOk result (λ text. Advances slot (length text) (D.state desk.old) (D.state desk.new)) }
     ensures whole { IfOk result (λ text. IfKept (D.state desk.old) (D.state desk.new) (λ t. text ≡ t.left slot)) }
     ensures in_limit { IfOk result (λ text. length text ≤ limit) }
@@ -121,10 +121,11 @@ pub fn read_whole<D: Desk>(
     read_pieces(alloc, desk, slot, limit, &mut room)
 }
 
-/// Appends all the bytes, or a first part where a write fails.
+/// Appends all the bytes, or a first part where a write fails. They are the last ones of their file, if they are fewer than a whole piece.
 pub fn write_all<D: Desk>(desk: &mut D, slot: u8, bytes: &[u8]) -> Result<(), Failed>
     requires kind { slot < 2 }
     requires open { IsTrue ((D.state desk.old).view.writing slot) }
+    requires not_finished { (D.state desk.old).finished slot ≡ false }
     // On success all bytes were appended.
     ensures ok { OnOk result (Reaches (wrote slot bytes.now) (D.state desk.old) (D.state desk.new)) }
     // On failure a first part was, and the count of failed writes rose.

@@ -2,19 +2,19 @@
 //!
 //! The lines with the offset and the soft literals are calls of the writer too, so that all lines of the file go through one buffer
 //! in their order.
-ghost use Rattle.std.specs.Prelude.{◌≡◌, ◌<◌, [], IsTrue, OnOk};
+ghost use Rattle.std.specs.Prelude.{◌≡◌, ◌<◌, false, IsTrue};
 ghost use Rattle.std.specs.Fmt.{signed_decimal};
 ghost use Rattle.pb_family.specs.Handing.{HandsText};
 
 use crate::outbox::WriteBuffer;
-use crate::writing::{flush, put_clause, put_text};
+use crate::writing::{put_clause, put_text};
 use itoa::Buffer;
 use pb_base::{Failed, Lit};
 use pb_desk::Desk;
-use pb_family::{ClauseSink, SinkFault};
+use pb_family::ClauseSink;
 
 /// Writes the lines of a weighted CNF to a slot, by pieces of up to 64 KiB: clauses as hard ones, behind `h`, and soft lines where
-/// they are asked for. What was taken is written once `flush` was called.
+/// they are asked for. What was taken is written once `finish` was called, when the writer is gone.
 #[derive(Drop)]
 pub struct HardWriter<'a, D: Desk> {
     desk: &'a mut D,
@@ -22,15 +22,16 @@ pub struct HardWriter<'a, D: Desk> {
     outbox: &'a mut WriteBuffer,
     ghost is_slot: { slot < 2 },
     ghost is_open: { IsTrue ((D.state desk.now).view.writing slot) },
+    ghost not_finished: { (D.state desk.now).finished slot ≡ false },
 }
 
 impl<'a, D: Desk> ClauseSink for HardWriter<'a, D> {
     ghost use base.Fml.{GName};
     ghost use Rattle.pb_dimacs.specs.Outboxes.{SlotRest, held_in, hard_sink};
 
-    ghost Rest = { SlotRest GName };
+    ghost Rest = { SlotRest (GName × GName) };
 
-    ghost state = { λ w. hard_sink w.desk.ghost_name w.slot (held_in w.outbox.now) (D.state w.desk.now) };
+    ghost state = { λ w. hard_sink (w.desk.ghost_name, w.outbox.ghost_name) w.slot (held_in w.outbox.now) (D.state w.desk.now) };
 
     fn clause(&mut self, clause: &[Lit]) -> Result<(), Failed> {
         self.put(b"h ")?;
@@ -41,14 +42,15 @@ impl<'a, D: Desk> ClauseSink for HardWriter<'a, D> {
 impl<'a, D: Desk> HardWriter<'a, D> {
     ghost use Rattle.pb_family.specs.ClauseText.{clause_text};
     ghost use Rattle.pb_dimacs.specs.WcnfText.{offset_text, soft_text};
-    ghost use Rattle.pb_dimacs.specs.Outboxes.{IsAllSent, Settles, held_in, hard_sink};
+    ghost use Rattle.pb_dimacs.specs.Outboxes.{held_in, hard_sink};
 
     /// Takes lines for an open slot, behind what the outbox holds.
     pub fn new(desk: &'a mut D, slot: u8, outbox: &'a mut WriteBuffer) -> HardWriter<'a, D>
         requires kind { slot < 2 }
         requires open { IsTrue ((D.state desk.old).view.writing slot) }
+        requires not_finished { (D.state desk.old).finished slot ≡ false }
         // The writer's text begins with what its buffer holds, and each clause has `h ` before it.
-        ensures { ⟦<HardWriter<'a, D> as ClauseSink>⟧.state result ≡ hard_sink desk.entry.ghost_name slot (held_in outbox.old) (D.state desk.old) }
+        ensures { ⟦<HardWriter<'a, D> as ClauseSink>⟧.state result ≡ hard_sink (desk.entry.ghost_name, outbox.entry.ghost_name) slot (held_in outbox.old) (D.state desk.old) }
     {
         HardWriter { desk, slot, outbox }
     }
@@ -92,30 +94,5 @@ impl<'a, D: Desk> HardWriter<'a, D> {
         self.put_number(weight)?;
         self.put(b" ")?;
         self.put_line(&[lit])
-    }
-
-    /// Writes all that is held.
-    pub fn flush(&mut self) -> Result<(), Failed>
-        // No text was added.
-        ensures taken { let seen = ⟦<HardWriter<'a, D> as ClauseSink>⟧.state in HandsText [] result (seen self.old) (seen self.new) }
-        // On success all that was accepted is in the file.
-        ensures all_sent { OnOk result (IsAllSent (⟦<HardWriter<'a, D> as ClauseSink>⟧.state self.new)) }
-    {
-        flush(self.desk, self.slot, self.outbox)
-    }
-
-    /// What is still to be done after a fault of handing over: where memory was wanting all that is held is written, whatever comes
-    /// of that. Where the desk has failed nothing is tried again.
-    pub fn settle(&mut self, fault: SinkFault)
-        // After `NoMemory` all that was accepted is in the file, or one more write failed; after a failed write nothing is tried again.
-        ensures { let seen = ⟦<HardWriter<'a, D> as ClauseSink>⟧.state in Settles fault (seen self.old) (seen self.new) }
-    {
-        match fault {
-            SinkFault::Failed => (),
-            SinkFault::NoMemory => match self.flush() {
-                Ok(()) => (),
-                Err(Failed) => (),
-            },
-        }
     }
 }

@@ -3,19 +3,17 @@
 //! Each line is made in a vector that is used again, and then copied to the buffer by small pieces. So `NoMemory` comes before any of
 //! a line is accepted. The caller lends the vector: a writer with one of its own would be dropped by code that gives memory back,
 //! after which nothing would be known of the desk.
-ghost use Rattle.std.specs.Prelude.{◌≡◌, ◌<◌, ◌^◌, ◌∷◌, [], Err, IsTrue, OnOk};
-ghost use Rattle.pb_family.specs.Handing.{HandsText};
-ghost use Rattle.pb_family.specs.StepSinks.{HandsSteps};
+ghost use Rattle.std.specs.Prelude.{◌≡◌, ◌<◌, false, IsTrue};
 
 use crate::outbox::WriteBuffer;
-use crate::writing::{flush, put_text};
-use pb_base::Failed;
+use crate::writing::put_text;
 use pb_desk::Desk;
-use pb_family::{SinkFault, SinkResult, StepSink, next_after};
+use pb_family::{SinkResult, StepSink, next_after};
 use pb_steps::{Step, write_step};
 use std::alloc::Global;
 
-/// Writes steps to a slot, a line each, by pieces of up to 64 KiB. What was taken is written once `flush` was called.
+/// Writes steps to a slot, a line each, by pieces of up to 64 KiB. What was taken is written once `finish` was called, when the
+/// writer is gone.
 #[derive(Drop)]
 pub struct StepWriter<'a, D: Desk> {
     desk: &'a mut D,
@@ -26,6 +24,7 @@ pub struct StepWriter<'a, D: Desk> {
     next: u64,
     ghost is_slot: { slot < 2 },
     ghost is_open: { IsTrue ((D.state desk.now).view.writing slot) },
+    ghost not_finished: { (D.state desk.now).finished slot ≡ false },
 }
 
 impl<'a, D: Desk> StepSink for StepWriter<'a, D> {
@@ -35,9 +34,9 @@ impl<'a, D: Desk> StepSink for StepWriter<'a, D> {
     ghost use base.Fml.{GName};
     ghost use Rattle.pb_dimacs.specs.Outboxes.{SlotRest, held_in, slot_sink};
 
-    ghost Rest = { SlotRest GName };
+    ghost Rest = { SlotRest (GName × GName) };
 
-    ghost state = { λ w. record { sink = slot_sink w.desk.ghost_name w.slot (held_in w.outbox.now) (D.state w.desk.now); next = w.next } };
+    ghost state = { λ w. record { sink = slot_sink (w.desk.ghost_name, w.outbox.ghost_name) w.slot (held_in w.outbox.now) (D.state w.desk.now); next = w.next } };
 
     /// Where memory is wanting, nothing of the line was taken.
     fn step(&mut self, step: &Step) -> SinkResult
@@ -59,7 +58,7 @@ impl<'a, D: Desk> StepSink for StepWriter<'a, D> {
 }
 
 impl<'a, D: Desk> StepWriter<'a, D> {
-    ghost use Rattle.pb_dimacs.specs.Outboxes.{IsAllSent, Settles, held_in, slot_sink};
+    ghost use Rattle.pb_dimacs.specs.Outboxes.{held_in, slot_sink};
 
     /// Takes steps for an open slot, behind what the outbox holds. Each line is put together in the vector that is lent. The first
     /// step that takes an id gets this one.
@@ -73,8 +72,9 @@ impl<'a, D: Desk> StepWriter<'a, D> {
     ) -> StepWriter<'a, D>
         requires kind { slot < 2 }
         requires open { IsTrue ((D.state desk.old).view.writing slot) }
+        requires not_finished { (D.state desk.old).finished slot ≡ false }
         // The writer's text begins with what its buffer holds.
-        ensures sink { (⟦<StepWriter<'a, D> as StepSink>⟧.state result).sink ≡ slot_sink desk.entry.ghost_name slot (held_in outbox.old) (D.state desk.old) }
+        ensures sink { (⟦<StepWriter<'a, D> as StepSink>⟧.state result).sink ≡ slot_sink (desk.entry.ghost_name, outbox.entry.ghost_name) slot (held_in outbox.old) (D.state desk.old) }
         // The first step that takes an id gets the given one.
         ensures next { (⟦<StepWriter<'a, D> as StepSink>⟧.state result).next ≡ next }
     {
@@ -85,33 +85,6 @@ impl<'a, D: Desk> StepWriter<'a, D> {
             alloc,
             line,
             next,
-        }
-    }
-
-    /// Writes all that is held.
-    pub fn flush(&mut self) -> Result<(), Failed>
-        // No text was added.
-        ensures taken { let seen = ⟦<StepWriter<'a, D> as StepSink>⟧.state in HandsText [] result (seen self.old).sink (seen self.new).sink }
-        // On success all that was accepted is in the file.
-        ensures all_sent { OnOk result (IsAllSent ((⟦<StepWriter<'a, D> as StepSink>⟧.state self.new).sink)) }
-        // The next id is as it was.
-        ensures next { let seen = ⟦<StepWriter<'a, D> as StepSink>⟧.state in (seen self.new).next ≡ (seen self.old).next }
-    {
-        flush(self.desk, self.slot, self.outbox)
-    }
-
-    /// What is still to be done after a fault of handing over: where memory was wanting all that is held is written, whatever comes
-    /// of that. Where the desk has failed nothing is tried again.
-    pub fn settle(&mut self, fault: SinkFault)
-        // After `NoMemory` all that was accepted is in the file, or one more write failed; after a failed write nothing is tried again.
-        ensures { let seen = ⟦<StepWriter<'a, D> as StepSink>⟧.state in Settles fault (seen self.old).sink (seen self.new).sink }
-    {
-        match fault {
-            SinkFault::Failed => (),
-            SinkFault::NoMemory => match self.flush() {
-                Ok(()) => (),
-                Err(Failed) => (),
-            },
         }
     }
 }

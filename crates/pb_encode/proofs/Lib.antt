@@ -22,6 +22,7 @@ pub mod ModelCosts
 pub mod Pieces
 pub mod PlainClauses
 pub mod Sends
+pub mod Handed
 pub mod ProblemSteps
 pub mod ProductSizes
 pub mod Residuals

@@ -1,20 +1,17 @@
 //! The file of a problem's derivation.
-ghost use Rattle.std.specs.Prelude.{◌≡◌, ◌≤◌, ◌<◌, ◌^◌, ◌+◌, All, OnOk, length};
+ghost use Rattle.std.specs.Prelude.{◌≡◌, ◌≤◌, ◌<◌, ◌^◌, ◌+◌, All, length};
 ghost use Rattle.pb_base.specs.Problems.{IsWithinLimits};
 ghost use Rattle.pb_base.specs.Statements.{raw_of};
-ghost use Rattle.pb_dimacs.specs.Outboxes.{IsAllSent};
 ghost use Rattle.pb_norm.specs.Halves.{constraints_of, loaded};
 ghost use Rattle.pb_norm.specs.Products.{defining, loaded_of};
-ghost use Rattle.pb_encode.specs.Encodings.{derivation_text};
-ghost use Rattle.pb_encode.specs.inner.SendingTexts.{SendsText};
 
 use crate::encodable::Encodable;
 use crate::file::FileText;
 use crate::whole::stream_told_steps;
 use pb_base::{Lits, Problem, Statement, Statements};
 use pb_desk::Desk;
-use pb_dimacs::{StepWriter, WriteBuffer};
-use pb_family::{SinkResult, StepSink};
+use pb_dimacs::{StepWriter, WriteBuffer, finish};
+use pb_family::SinkResult;
 use pb_norm::halves_of;
 use std::alloc::Global;
 
@@ -63,25 +60,6 @@ pub fn count_loaded(problem: &Problem) -> u64
         + count_statements(&problem.statements)
 }
 
-// Hands over all lines, and writes what is held, also where memory is wanting.
-fn send_steps<'a, D: Desk>(
-    alloc: Global,
-    input: &Encodable<'_>,
-    writer: &mut StepWriter<'a, D>,
-) -> SinkResult
-    requires next { (⟦<StepWriter<'a, D> as StepSink>⟧.state writer.old).next ≡ length (loaded_of input.now.problem.now) + 1 }
-    ensures sends { let seen = ⟦<StepWriter<'a, D> as StepSink>⟧.state in SendsText (derivation_text input.now.options.now input.now.problem.now) result (seen writer.old).sink (seen writer.new).sink }
-    ensures all_sent { OnOk result (IsAllSent ((⟦<StepWriter<'a, D> as StepSink>⟧.state writer.new).sink)) }
-{
-    match stream_told_steps(alloc, input, writer) {
-        Ok(()) => Ok(writer.flush()?),
-        Err(fault) => {
-            writer.settle(fault);
-            Err(fault)
-        }
-    }
-}
-
 // Its derivation.
 impl FileText for Encodable<'_> {
     ghost use Rattle.pb_encode.specs.Encodings.{derivation_text};
@@ -92,7 +70,10 @@ impl FileText for Encodable<'_> {
         let next = count_loaded(self.problem) + 1;
         let mut outbox = WriteBuffer::new(alloc)?;
         let mut line = Vec::new(alloc);
-        let mut writer = StepWriter::new(alloc, desk, slot, &mut outbox, &mut line, next);
-        send_steps(alloc, self, &mut writer)
+        let handed = {
+            let mut writer = StepWriter::new(alloc, desk, slot, &mut outbox, &mut line, next);
+            stream_told_steps(alloc, self, &mut writer)
+        };
+        finish(desk, slot, &mut outbox, handed)
     }
 }

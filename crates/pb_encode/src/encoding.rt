@@ -6,9 +6,8 @@ ghost use Rattle.std.specs.Prelude.{◌≡◌, false, Err, OnOk, IfOk, IsSome};
 ghost use Rattle.pb_base.specs.declared.limit.LimitKind.{LimitKind};
 ghost use Rattle.pb_base.specs.Problems.{IsWithinLimits};
 ghost use Rattle.pb_desk.specs.Desk.{IsSteady, Reaches};
-ghost use Rattle.pb_dimacs.specs.Outboxes.{IsAllSent};
 ghost use Rattle.pb_encode.specs.Encodings.{made_files, names_of, problem_text, IsCutOff, Lacks, Refuses, WantsMemory};
-ghost use Rattle.pb_encode.specs.inner.SendingTexts.{HandsTextIfMemory, SendsText};
+ghost use Rattle.pb_encode.specs.inner.SendingTexts.{HandsTextIfMemory};
 ghost use Rattle.pb_encode.specs.Summaries.{summary_of, IsEncodable};
 
 use crate::encodable::Encodable;
@@ -20,7 +19,7 @@ use crate::summary::Summary;
 use crate::whole::hand_told_clauses;
 use pb_base::{Options, Problem};
 use pb_desk::Desk;
-use pb_dimacs::{ClauseWriter, WriteBuffer};
+use pb_dimacs::{ClauseWriter, WriteBuffer, finish};
 use pb_family::{ClauseSink, SinkResult};
 use std::alloc::Global;
 
@@ -44,24 +43,6 @@ fn hand_cnf<'a, D: Desk>(
     hand_told_clauses(alloc, &of.input, writer)
 }
 
-// Hands over all lines, and writes what is held, also where memory is wanting.
-fn send_cnf<'a, D: Desk>(
-    alloc: Global,
-    of: &Measured<'_>,
-    writer: &mut ClauseWriter<'a, D>,
-) -> SinkResult
-    ensures sends { let seen = ⟦<ClauseWriter<'a, D> as ClauseSink>⟧.state in SendsText (problem_text of.now.input.options.now of.now.input.problem.now) result (seen writer.old) (seen writer.new) }
-    ensures all_sent { OnOk result (IsAllSent (⟦<ClauseWriter<'a, D> as ClauseSink>⟧.state writer.new)) }
-{
-    match hand_cnf(alloc, of, writer) {
-        Ok(()) => Ok(writer.flush()?),
-        Err(fault) => {
-            writer.settle(fault);
-            Err(fault)
-        }
-    }
-}
-
 impl FileText for Measured<'_> {
     ghost use Rattle.pb_encode.specs.Encodings.{problem_text};
 
@@ -69,8 +50,11 @@ impl FileText for Measured<'_> {
 
     fn send<D: Desk>(&self, alloc: Global, desk: &mut D, slot: u8) -> SinkResult {
         let mut outbox = WriteBuffer::new(alloc)?;
-        let mut writer = ClauseWriter::new(desk, slot, &mut outbox);
-        send_cnf(alloc, self, &mut writer)
+        let handed = {
+            let mut writer = ClauseWriter::new(desk, slot, &mut outbox);
+            hand_cnf(alloc, self, &mut writer)
+        };
+        finish(desk, slot, &mut outbox, handed)
     }
 }
 

@@ -15,10 +15,11 @@ pub trait FileText {
     /// The text that the file has.
     ghost text: { Self → List ℕ };
 
-    /// Hands it to an open slot, and writes what is held, also where memory is wanting.
+    /// Hands it to an open slot whose file goes on, and ends the file by what is held, also where memory is wanting.
     fn send<D: Desk>(&self, alloc: Global, desk: &mut D, slot: u8) -> SinkResult
         requires kind { slot < 2 }
         requires open { IsTrue ((D.state desk.old).view.writing slot) }
+        requires not_finished { (D.state desk.old).finished slot ≡ false }
         ensures { Sends slot (text self.now) result (D.state desk.old) (D.state desk.new) };
 }
 

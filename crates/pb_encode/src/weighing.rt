@@ -7,13 +7,12 @@ ghost use Rattle.pb_norm.specs.Reduction.{opposite};
 ghost use Rattle.pb_family.specs.Handing.{HandsText};
 ghost use Rattle.pb_base.specs.declared.options.Options.{Options};
 ghost use Rattle.pb_desk.specs.Desk.{IsSteady, Reaches};
-ghost use Rattle.pb_dimacs.specs.Outboxes.{IsAllSent};
 ghost use Rattle.pb_dimacs.specs.WcnfReading.{hard_and_soft, WcnfReads};
 ghost use Rattle.pb_dimacs.specs.WcnfText.{offset_text, softs_text};
 ghost use Rattle.pb_encode.specs.Clauses.{problem_clauses};
 ghost use Rattle.pb_encode.specs.Costs.{objective_form, softs_of, CostsAddUp};
 ghost use Rattle.pb_encode.specs.Encodings.{made, Refuses};
-ghost use Rattle.pb_encode.specs.inner.SendingTexts.{HandsTextIfMemory, SendsText};
+ghost use Rattle.pb_encode.specs.inner.SendingTexts.{HandsTextIfMemory};
 ghost use Rattle.pb_encode.specs.Summaries.{summary_of, IsEncodable};
 ghost use Rattle.pb_encode.specs.Weighted.{weighted_text, HasCostsOf, IsWeightedCutOff, LacksForWeighted, WantsForWeighted};
 
@@ -27,7 +26,7 @@ use crate::summary::Summary;
 use crate::whole::hand_told_clauses;
 use pb_base::{Failed, Options, Problem};
 use pb_desk::Desk;
-use pb_dimacs::{HardWriter, WriteBuffer};
+use pb_dimacs::{HardWriter, WriteBuffer, finish};
 use pb_family::{ClauseSink, SinkResult};
 use pb_norm::Linear;
 use std::alloc::Global;
@@ -75,24 +74,6 @@ fn hand_weighted<'a, D: Desk>(
     Ok(())
 }
 
-// Hands over all lines, and writes what is held, also where memory is wanting.
-fn send_weighted<'a, D: Desk>(
-    alloc: Global,
-    of: &Costed<'_>,
-    writer: &mut HardWriter<'a, D>,
-) -> SinkResult
-    ensures sends { let seen = ⟦<HardWriter<'a, D> as ClauseSink>⟧.state in SendsText (weighted_text of.now.input.options.now of.now.input.problem.now) result (seen writer.old) (seen writer.new) }
-    ensures all_sent { OnOk result (IsAllSent (⟦<HardWriter<'a, D> as ClauseSink>⟧.state writer.new)) }
-{
-    match hand_weighted(alloc, of, writer) {
-        Ok(()) => Ok(writer.flush()?),
-        Err(fault) => {
-            writer.settle(fault);
-            Err(fault)
-        }
-    }
-}
-
 impl FileText for Costed<'_> {
     ghost use Rattle.pb_encode.specs.Weighted.{weighted_text};
 
@@ -100,8 +81,11 @@ impl FileText for Costed<'_> {
 
     fn send<D: Desk>(&self, alloc: Global, desk: &mut D, slot: u8) -> SinkResult {
         let mut outbox = WriteBuffer::new(alloc)?;
-        let mut writer = HardWriter::new(desk, slot, &mut outbox);
-        send_weighted(alloc, self, &mut writer)
+        let handed = {
+            let mut writer = HardWriter::new(desk, slot, &mut outbox);
+            hand_weighted(alloc, self, &mut writer)
+        };
+        finish(desk, slot, &mut outbox, handed)
     }
 }
 

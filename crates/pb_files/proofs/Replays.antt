@@ -40,26 +40,26 @@ still_has place slot piece answer calls calls' is has = subst (λ (o : Option (L
         option_same : (x y : List Call) → Some x ≡ Some y → x ≡ y
         option_same x y e = cc
 
-module _ (files : Shelf) (reading writing : List Bool) (reads writes : ℕ) (over : List Bool) where
+module _ (files : Shelf) (reading writing : List Bool) (reads writes : ℕ) (over finished later_finished : List Bool) where
   -- some bytes were taken
-  wrote_some : (slot count : ℕ) (piece : List ℕ) (calls : Option (List Call)) → Reaches (wrote slot (take count piece)) (replayed files calls reading writing reads writes over) (replayed files (with_call (write slot piece (Some count)) calls) reading writing reads writes over)
+  wrote_some : (slot count : ℕ) (piece : List ℕ) (calls : Option (List Call)) → Reaches (wrote slot (take count piece)) (replayed files calls reading writing reads writes over finished) (replayed files (with_call (write slot piece (Some count)) calls) reading writing reads writes over later_finished)
   wrote_some slot count piece None = record { view = refl; tells = refl; reads = refl; writes = refl; ended = refl; keeps = refl }
   wrote_some slot count piece (Some cs) = record { view = refl; tells = refl; reads = refl; writes = refl; ended = refl; keeps = refl }
 
   -- none were, and that is a fault
-  wrote_none : (slot later : ℕ) (piece : List ℕ) (calls : Option (List Call)) → Rose writes later → FailsToWrite same (replayed files calls reading writing reads writes over) (replayed files (with_call (write slot piece (Some 0)) calls) reading writing reads later over)
+  wrote_none : (slot later : ℕ) (piece : List ℕ) (calls : Option (List Call)) → Rose writes later → FailsToWrite same (replayed files calls reading writing reads writes over finished) (replayed files (with_call (write slot piece (Some 0)) calls) reading writing reads later over later_finished)
   wrote_none slot later piece calls rose =
       let far = wrote_some slot 0 piece calls in
-      record { view = far.view ∙ wrote-nil slot (replayed files calls reading writing reads writes over).view; tells = far.tells; reads = refl; writes = rose; ended = refl; keeps = far.keeps }
+      record { view = far.view ∙ wrote-nil slot (replayed files calls reading writing reads writes over finished).view; tells = far.tells; reads = refl; writes = rose; ended = refl; keeps = far.keeps }
 
   module _ (files' : Shelf) (stay : files' ≡ files) (slot : ℕ) (piece : List ℕ) (calls calls' : Option (List Call)) where
-    pub write_reaches : (count : ℕ) → calls' ≡ with_call (write slot piece (Some count)) calls → Reaches (wrote slot (take count piece)) (replayed files calls reading writing reads writes over) (replayed files' calls' reading writing reads writes over)
-    write_reaches count is = subst (λ (f : Shelf). Reaches (wrote slot (take count piece)) (replayed files calls reading writing reads writes over) (replayed f calls' reading writing reads writes over)) (sym stay)
-        (subst (λ (cs : Option (List Call)). Reaches (wrote slot (take count piece)) (replayed files calls reading writing reads writes over) (replayed files cs reading writing reads writes over)) (sym is) (wrote_some slot count piece calls))
+    pub write_reaches : (count : ℕ) → calls' ≡ with_call (write slot piece (Some count)) calls → Reaches (wrote slot (take count piece)) (replayed files calls reading writing reads writes over finished) (replayed files' calls' reading writing reads writes over later_finished)
+    write_reaches count is = subst (λ (f : Shelf). Reaches (wrote slot (take count piece)) (replayed files calls reading writing reads writes over finished) (replayed f calls' reading writing reads writes over later_finished)) (sym stay)
+        (subst (λ (cs : Option (List Call)). Reaches (wrote slot (take count piece)) (replayed files calls reading writing reads writes over finished) (replayed files cs reading writing reads writes over later_finished)) (sym is) (wrote_some slot count piece calls))
 
-    pub write_fails : (count later : ℕ) → count ≡ 0 → calls' ≡ with_call (write slot piece (Some count)) calls → Rose writes later → FailsToWrite same (replayed files calls reading writing reads writes over) (replayed files' calls' reading writing reads later over)
-    write_fails count later none is rose = subst (λ (f : Shelf). FailsToWrite same (replayed files calls reading writing reads writes over) (replayed f calls' reading writing reads later over)) (sym stay)
-        (subst (λ (cs : Option (List Call)). FailsToWrite same (replayed files calls reading writing reads writes over) (replayed files cs reading writing reads later over)) (sym (is ∙ ap (λ (n : ℕ). with_call (write slot piece (Some n)) calls) none)) (wrote_none slot later piece calls rose))
+    pub write_fails : (count later : ℕ) → count ≡ 0 → calls' ≡ with_call (write slot piece (Some count)) calls → Rose writes later → FailsToWrite same (replayed files calls reading writing reads writes over finished) (replayed files' calls' reading writing reads later over later_finished)
+    write_fails count later none is rose = subst (λ (f : Shelf). FailsToWrite same (replayed files calls reading writing reads writes over finished) (replayed f calls' reading writing reads later over later_finished)) (sym stay)
+        (subst (λ (cs : Option (List Call)). FailsToWrite same (replayed files calls reading writing reads writes over finished) (replayed files cs reading writing reads later over later_finished)) (sym (is ∙ ap (λ (n : ℕ). with_call (write slot piece (Some n)) calls) none)) (wrote_none slot later piece calls rose))
 
 -- ---- a read
 

@@ -15,13 +15,14 @@ abbrev pub marked : List Bool → ℕ → Bool
 marked marks slot = slice_index_or marks slot false
 
 -- What the desk shows: which slots are open; where calls are kept, what these show over the files that are supposed; its counts; which
--- slots are at their end; and whether each answer was what those files give.
-abbrev pub replayed : Shelf → Option (List Call) → List Bool → List Bool → ℕ → ℕ → List Bool → DeskState
-replayed files calls reading writing read_faults write_faults over = record {
+-- slots are at their end, and which files at their last piece; and whether each answer was what those files give.
+abbrev pub replayed : Shelf → Option (List Call) → List Bool → List Bool → ℕ → ℕ → List Bool → List Bool → DeskState
+replayed files calls reading writing read_faults write_faults over finished = record {
   view = record { reading = marked reading; writing = marked writing; told = option_map (told_of files) calls; room = None; steady = false };
   read_faults = read_faults;
   write_faults = write_faults;
   ended = marked over;
+  finished = marked finished;
   keeps = option_map_or (answers_as files) calls true;
 }
 

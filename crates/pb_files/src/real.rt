@@ -8,7 +8,7 @@ ghost use Rattle.pb_files.specs.Replay.{answers_as, has_slot, made_of, told_of};
 use crate::known::is_known;
 use crate::{FileId, System};
 use pb_base::{Failed, FaultCount};
-use pb_desk::Desk;
+use pb_desk::{Desk, is_file_end};
 
 /// What a desk over a system shows; what it has asked of it, and holds.
 pub trait Asks {
@@ -37,6 +37,7 @@ pub struct RealDesk<S: System + Drop> {
     read_faults: FaultCount,
     write_faults: FaultCount,
     over: [bool; 5],
+    finished: [bool; 2],
     ghost has_file: { (slot : ℕ) → marked writing slot ≡ true → ForSome (S.calls system) (λ calls. has_slot slot (made_of calls) ≡ true) },
 }
 
@@ -44,7 +45,7 @@ impl<S: System + Drop> Asks for RealDesk<S> {
     ghost use Rattle.std.specs.Prelude.{refl};
     ghost use Rattle.pb_files.specs.Asked.{replayed};
 
-    ghost shown = { λ desk. replayed (S.files desk.system) (S.calls desk.system) desk.reading desk.writing desk.read_faults desk.write_faults desk.over };
+    ghost shown = { λ desk. replayed (S.files desk.system) (S.calls desk.system) desk.reading desk.writing desk.read_faults desk.write_faults desk.over desk.finished };
 
     ghost asked = { λ desk. record { files = S.files desk.system; calls = S.calls desk.system; known = desk.known; output = desk.output } };
 
@@ -83,6 +84,7 @@ impl<S: System + Drop> RealDesk<S> {
             read_faults: FaultCount::new(),
             write_faults: FaultCount::new(),
             over: [false; 5],
+            finished: [false; 2],
         }
     }
 }
@@ -92,7 +94,7 @@ impl<S: System + Drop> RealDesk<S> {
 impl<S: System + Drop> Desk for RealDesk<S> {
     ghost use Rattle.std.specs.Prelude.{◌≡◌, ◌≤◌, ◌<◌, ◌⊎◌, ◌==◌, length, take, false, IsTrue, IsSome, IsNone, IfOk, OnOk, OnErr, Some, None};
     ghost use Rattle.pb_desk.specs.View.{put, opened, taken, created, wrote, closed, spoke};
-    ghost use Rattle.pb_desk.specs.Desk.{Reads, Reaches, FailsToRead, FailsToWrite, same, IsSteady, IfTold, IfKept, IsTold, Gives, TakesSome, HasName, IsTaken, LacksRoom, written, words};
+    ghost use Rattle.pb_desk.specs.Desk.{Reads, Reaches, FailsToRead, FailsToWrite, same, IsSteady, IfTold, IfKept, IsTold, Gives, TakesSome, is_last, HasName, IsTaken, LacksRoom, written, words};
     ghost use Rattle.pb_files.specs.Calls.Call.{open_file as opens, read as reads, write as writes, sync as syncs, say as says};
     ghost use Rattle.pb_files.specs.Asked.{after, Opens, Makes, Refuses};
     ghost use Rattle.pb_files.specs.inner.ReplayLaws.{open_files};
@@ -128,6 +130,7 @@ impl<S: System + Drop> Desk for RealDesk<S> {
         requires kind { slot < 5 }
         requires open { IsTrue ((⟦<RealDesk<S> as Asks>⟧.shown self.old).view.reading slot) }
         requires not_ended { (⟦<RealDesk<S> as Asks>⟧.shown self.old).ended slot ≡ false }
+        requires whole { 65536 ≤ length room.old }
         ensures ok { IfOk result (λ count. Reads (taken slot count) (⟦<RealDesk<S> as Asks>⟧.shown self.old) (⟦<RealDesk<S> as Asks>⟧.shown self.new)) }
         ensures failed { OnErr result (FailsToRead same (⟦<RealDesk<S> as Asks>⟧.shown self.old) (⟦<RealDesk<S> as Asks>⟧.shown self.new)) }
         ensures count { IfOk result (λ count. count ≤ length room.new) }
@@ -154,6 +157,7 @@ impl<S: System + Drop> Desk for RealDesk<S> {
         requires kind { slot < 2 }
         requires free { (⟦<RealDesk<S> as Asks>⟧.shown self.old).view.writing slot ≡ false }
         ensures ok { OnOk result (Reaches (created slot name.now) (⟦<RealDesk<S> as Asks>⟧.shown self.old) (⟦<RealDesk<S> as Asks>⟧.shown self.new)) }
+        ensures begun { OnOk result ((⟦<RealDesk<S> as Asks>⟧.shown self.new).finished ≡ put (⟦<RealDesk<S> as Asks>⟧.shown self.old).finished slot false) }
         ensures failed { OnErr result (FailsToWrite same (⟦<RealDesk<S> as Asks>⟧.shown self.old) (⟦<RealDesk<S> as Asks>⟧.shown self.new)) }
         ensures fresh { IsSteady (⟦<RealDesk<S> as Asks>⟧.shown self.old) → OnOk result (IfTold (⟦<RealDesk<S> as Asks>⟧.shown self.old) (λ t. HasName name.now t.made → ⊥)) }
         ensures steady { IsSteady (⟦<RealDesk<S> as Asks>⟧.shown self.old) → OnErr result (IsTold (⟦<RealDesk<S> as Asks>⟧.shown self.old) (λ t. IsTaken slot name.now t.made)) }
@@ -177,16 +181,20 @@ impl<S: System + Drop> Desk for RealDesk<S> {
         };
         self.known[5 + slot as usize] = id;
         self.writing[slot as usize] = true;
+        self.finished[slot as usize] = false;
         Ok(())
     }
 
     fn write(&mut self, slot: u8, piece: &[u8]) -> Result<usize, Failed>
         requires kind { slot < 2 }
         requires open { IsTrue ((⟦<RealDesk<S> as Asks>⟧.shown self.old).view.writing slot) }
+        requires not_finished { (⟦<RealDesk<S> as Asks>⟧.shown self.old).finished slot ≡ false }
         ensures ok { IfOk result (λ count. Reaches (wrote slot (take count piece.now)) (⟦<RealDesk<S> as Asks>⟧.shown self.old) (⟦<RealDesk<S> as Asks>⟧.shown self.new)) }
         ensures failed { OnErr result (FailsToWrite same (⟦<RealDesk<S> as Asks>⟧.shown self.old) (⟦<RealDesk<S> as Asks>⟧.shown self.new)) }
         ensures count { IfOk result (TakesSome piece.now) }
         ensures steady { IsSteady (⟦<RealDesk<S> as Asks>⟧.shown self.old) → OnErr result (LacksRoom (written slot) 1 (⟦<RealDesk<S> as Asks>⟧.shown self.old)) }
+        ensures finished { IfOk result (λ count. (⟦<RealDesk<S> as Asks>⟧.shown self.new).finished ≡ put (⟦<RealDesk<S> as Asks>⟧.shown self.old).finished slot (is_last piece.now count)) }
+        ensures unfinished { OnErr result ((⟦<RealDesk<S> as Asks>⟧.shown self.new).finished ≡ (⟦<RealDesk<S> as Asks>⟧.shown self.old).finished) }
         // On success the system was called once, with this slot's file and the piece, and took so many bytes.
         ensures took { let asked = ⟦<RealDesk<S> as Asks>⟧.asked in IfOk result (λ count. asked self.new ≡ after (writes slot piece.now (Some count)) (asked self.old)) }
         // It fails iff the system's write failed, or took no byte of a piece that has some.
@@ -195,7 +203,10 @@ impl<S: System + Drop> Desk for RealDesk<S> {
     {
         match self.system.write(slot, piece) {
             Ok(0) if !piece.is_empty() => Err(self.write_faults.rise()),
-            Ok(count) => Ok(count),
+            Ok(count) => {
+                self.finished[slot as usize] = is_file_end(piece, count);
+                Ok(count)
+            }
             Err(Failed) => Err(self.write_faults.rise()),
         }
     }

@@ -1,39 +1,57 @@
 // Texts that are written to a desk in memory.
+ghost use Rattle.std.specs.Prelude.{◌≡◌};
 ghost use Rattle.pb_desk.specs.Desk.{IsClosed};
 
 use super::propagation::lit_at;
 use crate::cases::assert_found;
 use crate::samples::desks::desk_with;
-use pb_base::Failed;
 use pb_desk::{Desk, MemoryDesk};
-use pb_dimacs::{ClauseWriter, HardWriter, WriteBuffer};
-use pb_family::ClauseSink;
+use pb_dimacs::{ClauseWriter, HardWriter, WriteBuffer, finish};
+use pb_family::{ClauseSink, SinkResult};
 use std::alloc::Global;
 
-// Writes a text of three clauses to a new file.
-fn write_plain<D: Desk>(desk: &mut D, outbox: &mut WriteBuffer) -> Result<(), Failed>
-    requires { IsClosed (D.state desk.old) }
+// Hands over a text of three clauses.
+fn hand_plain<'a, D: Desk>(writer: &mut ClauseWriter<'a, D>) -> SinkResult
+    ensures { let seen = ⟦<ClauseWriter<'a, D> as ClauseSink>⟧.state in (seen writer.new).rest ≡ (seen writer.old).rest }
 {
-    desk.create(1, "out")?;
-    let mut writer = ClauseWriter::new(desk, 1, outbox);
     writer.header(12, 3)?;
     writer.clause(&[lit_at(1, true), lit_at(12, true)])?;
     writer.clause(&[])?;
-    writer.clause(&[lit_at(2, false)])?;
-    writer.flush()
+    Ok(writer.clause(&[lit_at(2, false)])?)
 }
 
-// Writes a text of two hard clauses and a soft literal to a new file.
-fn write_weighted<D: Desk>(desk: &mut D, outbox: &mut WriteBuffer) -> Result<(), Failed>
+// Writes it to a new file.
+fn write_plain<D: Desk>(desk: &mut D, outbox: &mut WriteBuffer) -> SinkResult
     requires { IsClosed (D.state desk.old) }
 {
     desk.create(1, "out")?;
-    let mut writer = HardWriter::new(desk, 1, outbox);
+    let handed = {
+        let mut writer = ClauseWriter::new(desk, 1, outbox);
+        hand_plain(&mut writer)
+    };
+    finish(desk, 1, outbox, handed)
+}
+
+// Hands over a text of two hard clauses and a soft literal.
+fn hand_weighted<'a, D: Desk>(writer: &mut HardWriter<'a, D>) -> SinkResult
+    ensures { let seen = ⟦<HardWriter<'a, D> as ClauseSink>⟧.state in (seen writer.new).rest ≡ (seen writer.old).rest }
+{
     writer.offset(-1)?;
     writer.clause(&[lit_at(1, true), lit_at(12, true)])?;
     writer.clause(&[])?;
-    writer.soft(1 << 99, lit_at(1, false))?;
-    writer.flush()
+    Ok(writer.soft(1 << 99, lit_at(1, false))?)
+}
+
+// Writes it to a new file.
+fn write_weighted<D: Desk>(desk: &mut D, outbox: &mut WriteBuffer) -> SinkResult
+    requires { IsClosed (D.state desk.old) }
+{
+    desk.create(1, "out")?;
+    let handed = {
+        let mut writer = HardWriter::new(desk, 1, outbox);
+        hand_weighted(&mut writer)
+    };
+    finish(desk, 1, outbox, handed)
 }
 
 fn write<D: Desk>(alloc: Global, desk: &mut D, weighted: bool) -> Option<()>

@@ -1,5 +1,5 @@
 // Steps that are written to a slot of a desk in memory.
-ghost use Rattle.std.specs.Prelude.{IsTrue};
+ghost use Rattle.std.specs.Prelude.{◌≡◌, false, IsTrue};
 ghost use Rattle.pb_desk.specs.Desk.{IsClosed};
 
 use super::checking::desk_with;
@@ -7,7 +7,7 @@ use crate::samples::at_most;
 use pb_amo::Pairwise;
 use pb_base::Ids;
 use pb_desk::Desk;
-use pb_dimacs::{StepWriter, WriteBuffer};
+use pb_dimacs::{StepWriter, WriteBuffer, finish};
 use pb_family::{Derive, StepSink, are_below, are_ones};
 use pb_norm::AtMost;
 use std::alloc::Global;
@@ -20,15 +20,21 @@ fn derive_pairs<D: Desk>(
     outbox: &mut WriteBuffer,
     line: &mut Vec<u8>,
 ) -> Option<u64>
-    requires { IsTrue ((D.state desk.old).view.writing 1) }
+    requires open { IsTrue ((D.state desk.old).view.writing 1) }
+    requires not_finished { (D.state desk.old).finished 1 ≡ false }
 {
     if of.bound() != 1 || !are_ones(of.terms()) || !are_below(of.terms(), 4) {
         return None;
     }
-    let mut writer = StepWriter::new(alloc, desk, 1, outbox, line, 7);
-    Pairwise::over(of).derive(alloc, 4, 6, &mut writer).ok()?;
-    writer.flush().ok()?;
-    Some(writer.next_id())
+    let next;
+    let handed = {
+        let mut writer = StepWriter::new(alloc, desk, 1, outbox, line, 7);
+        let handed = Pairwise::over(of).derive(alloc, 4, 6, &mut writer);
+        next = writer.next_id();
+        handed
+    };
+    finish(desk, 1, outbox, handed).ok()?;
+    Some(next)
 }
 
 // The same to a new file.

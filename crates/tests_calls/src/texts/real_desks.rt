@@ -1,11 +1,14 @@
 // The desk of the system, over one that answers by a list, and over real files.
-ghost use Rattle.std.specs.Prelude.{◌≡◌, ◌≤◌, IsTrue, IfOk};
+ghost use Rattle.std.specs.Prelude.{◌≡◌, ◌≤◌, length, false, IsTrue, IfOk};
 ghost use Rattle.pb_desk.specs.Desk.{IsClosed};
 
 use pb_base::Failed;
 use pb_desk::Desk;
 use pb_files::{FileId, Host, RealDesk, System};
 use std::fs;
+
+// How many bytes a whole piece has.
+const PIECE: usize = 65_536;
 
 // A system that answers by a list: a number, or that it fails. It fails where the list has ended.
 #[derive(Drop)]
@@ -92,9 +95,11 @@ type Answers = [Option<usize>; 4];
 fn read_next<D: Desk>(desk: &mut D, room: &mut [u8], is_over: &mut bool) -> Option<usize>
     requires open { IsTrue ((D.state desk.old).view.reading 0) }
     requires knows { (D.state desk.old).ended 0 ≡ is_over.old }
+    requires whole { PIECE ≤ length room.old }
     ensures open { IsTrue ((D.state desk.new).view.reading 0) }
     ensures knows { (D.state desk.new).ended 0 ≡ is_over.new }
     ensures writing { (D.state desk.new).view.writing ≡ (D.state desk.old).view.writing }
+    ensures whole { PIECE ≤ length room.new }
 {
     if *is_over {
         return Some(0);
@@ -108,7 +113,7 @@ fn read_next<D: Desk>(desk: &mut D, room: &mut [u8], is_over: &mut bool) -> Opti
 fn reads<D: Desk>(desk: &mut D, from: &str, to: &str) -> Result<Answers, Failed>
     requires { IsClosed (D.state desk.old) }
 {
-    let mut room = [0u8; 16];
+    let mut room = [0u8; PIECE];
     let mut is_over = false;
     desk.open(0, from)?;
     let first = read_next(desk, &mut room, &mut is_over);
@@ -118,14 +123,26 @@ fn reads<D: Desk>(desk: &mut D, from: &str, to: &str) -> Result<Answers, Failed>
     Ok([first, second, third, made])
 }
 
-// Makes a file, writes five bytes to it three times, and closes it.
+// Writes a whole piece to slot 1.
+fn write_next<D: Desk>(desk: &mut D, piece: &[u8]) -> Option<usize>
+    requires open { IsTrue ((D.state desk.old).view.writing 1) }
+    requires not_finished { (D.state desk.old).finished 1 ≡ false }
+    requires whole { PIECE ≤ length piece.now }
+    ensures open { IsTrue ((D.state desk.new).view.writing 1) }
+    ensures not_finished { (D.state desk.new).finished 1 ≡ false }
+{
+    desk.write(1, piece).ok()
+}
+
+// Makes a file, writes a whole piece to it three times, and closes it.
 fn writes<D: Desk>(desk: &mut D, to: &str) -> Result<Answers, Failed>
     requires { IsClosed (D.state desk.old) }
 {
+    let piece = [b' '; PIECE];
     desk.create(1, to)?;
-    let first = desk.write(1, b"+1 x1").ok();
-    let second = desk.write(1, b"+1 x1").ok();
-    let third = desk.write(1, b"+1 x1").ok();
+    let first = write_next(desk, &piece);
+    let second = write_next(desk, &piece);
+    let third = write_next(desk, &piece);
     let closed = desk.close(1).ok().and(Some(0));
     Ok([first, second, third, closed])
 }

@@ -1,4 +1,4 @@
-use Rattle.std.proofs.Common.{length, ◌-◌, ◌≤◌, take}
+use Rattle.std.proofs.Common.{◌≡◌, ◌<◌, ◌≤◌, ◌-◌, false, length, take}
 use Rattle.pb_desk.specs.View.{wrote}
 use Rattle.pb_desk.specs.Desk.{Reaches}
 use Rattle.pb_desk.proofs.whole.write_all.Given as goal
@@ -6,6 +6,7 @@ use Rattle.pb_desk.proofs.whole.write_all.Given as goal
 abbrev pub invariant-loop-at : goal.invariant-loop-at
 invariant-loop-at g l = record {
   in_text : l.at ≤ length l.bytes;
+  goes_on : l.at < length l.bytes → (g.D.Desk.state l.desk).finished l.slot ≡ false;
   reached : Reaches (wrote l.slot (take l.at l.bytes)) (g.D.Desk.state l.initial.desk) (g.D.Desk.state l.desk);
 }
 

@@ -1,6 +1,7 @@
-use Rattle.std.proofs.Common.{ap, ◌∙◌}
+use Rattle.std.proofs.Common.{ℕ, Bool, false, ap, ◌∙◌}
 use Rattle.std.proofs.lemmas.Result.{IfOk-from_err}
 use Rattle.pb_desk.specs.View.{View}
+use Rattle.pb_desk.proofs.Readings.{put-same}
 use Rattle.pb_encode.specs.inner.Faults.{of_sink}
 use Rattle.pb_encode.proofs.MadeFiles.{end_stops, lacks_stops, memory_stops, no_limit, slot_open, write_stops}
 use Rattle.pb_encode.proofs.Residuals.{was_handed}
@@ -8,6 +9,9 @@ use Rattle.pb_encode.proofs.file.make_file.Goals as goal
 
 pub send-requires-clause-open : goal.send-requires-clause-open
 send-requires-clause-open g c = slot_open c.args.slot c.args.name.now (g.D.Desk.state c.args.desk.now) (g.D.Desk.state c.create.new.self) c.in_ok-create.ensures.ok.view
+
+pub send-requires-clause-not_finished : goal.send-requires-clause-not_finished
+send-requires-clause-not_finished g c = ap (λ (f : ℕ → Bool). f c.args.slot) c.in_ok-create.ensures.begun ∙ put-same (g.D.Desk.state c.args.desk.now).finished c.args.slot false
 
 pub returns-in_err-send-clause-limit : goal.returns-in_err-send-clause-limit
 returns-in_err-send-clause-limit g c =

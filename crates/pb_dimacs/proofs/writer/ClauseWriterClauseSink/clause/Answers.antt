@@ -9,4 +9,4 @@ returns g c =
     let w = c.args.self.now in
     let line = clause_text c.args.clause.now in
     text_same c.put_clause.result _ _ _ _ (sym (append-nil line))
-    (named_hands w.desk.ghost_name c.put_clause.result w.slot line (held_in w.outbox.now) (held_in c.put_clause.new.outbox) (g.D.Desk.state w.desk.now) (g.D.Desk.state c.put_clause.new.desk) c.put_clause.ensures)
+    (named_hands (w.desk.ghost_name, w.outbox.ghost_name) c.put_clause.result w.slot line (held_in w.outbox.now) (held_in c.put_clause.new.outbox) (g.D.Desk.state w.desk.now) (g.D.Desk.state c.put_clause.new.desk) c.put_clause.ensures.hands)

@@ -2,7 +2,8 @@ use Rattle.std.proofs.Common.{ap}
 use Rattle.std.specs.Prelude.{codes}
 use Rattle.pb_dimacs.specs.Outboxes.{held_in}
 use Rattle.pb_encode.specs.Weighted.{weighted_text}
-use Rattle.pb_encode.proofs.WholeTexts.{none_sent, text_sent}
+use Rattle.pb_encode.proofs.Handed.{handed_text}
+use Rattle.pb_encode.proofs.WholeTexts.{file_sent, none_sent}
 use Rattle.pb_encode.proofs.weighing.CostedFileText.send.Goals as goal
 
 pub returns-in_err-outbox : goal.returns-in_err-outbox
@@ -10,7 +11,13 @@ returns-in_err-outbox g c = none_sent c.args.slot (weighted_text c.args.self.now
 
 pub returns : goal.returns
 returns g c =
-    let w = c.send_weighted.new.writer in
-    let back = c.desk-1.given in
-    text_sent (codes "h ") c.new-arg-1.given w.desk.ghost_name c.args.slot w.slot (g.D.Desk.state c.args.desk.now) (g.D.Desk.state w.desk.now) _ (held_in w.outbox.now) (weighted_text c.args.self.now.input.options.now c.args.self.now.input.problem.now) _ c.in_ok-outbox.ensures c.new-writer.ensures
-    (g.D.Desk.state back.0) (λ named. ap g.D.Desk.state (back.1 named)) (g.met.D.Desk.steady_has_room c.args.desk.now) c.send_weighted.result c.send_weighted.ensures.sends c.send_weighted.ensures.all_sent
+    let slot = c.args.slot in
+    let text = weighted_text c.args.self.now.input.options.now c.args.self.now.input.problem.now in
+    let w = c.hand_weighted-handed.new.writer in
+    let desk = c.desk-1.given in
+    let outbox = c.outbox-3-1.given in
+    let a = g.D.Desk.state c.args.desk.now in
+    let handed =
+    handed_text (codes "h ") (c.new-arg-1.given, c.outbox-2-1.given.0) (w.desk.ghost_name, w.outbox.ghost_name) slot w.slot a (g.D.Desk.state w.desk.now) (g.D.Desk.state desk.0) (held_in c.in_ok-outbox.outbox) (held_in w.outbox.now) (held_in outbox.0) text _ c.in_ok-outbox.ensures c.new-writer.ensures
+    (λ named. ap g.D.Desk.state (desk.1 named)) (λ named. ap held_in (outbox.1 named)) c.hand_weighted-handed.result c.hand_weighted-handed.ensures in
+    file_sent slot a (g.D.Desk.state desk.0) (g.D.Desk.state c.finish.new.desk) (held_in outbox.0) (held_in c.finish.new.outbox) text c.hand_weighted-handed.result c.finish.result (g.met.D.Desk.steady_has_room c.args.desk.now) handed c.finish.ensures
