@@ -3,6 +3,7 @@ ghost use Rattle.std.specs.Prelude.{◌≡◌, ℕ, replicate, None, true};
 ghost use Rattle.std.specs.Option.{option_map, option_map_or, ForSome};
 ghost use Rattle.pb_desk.specs.Desk.{DeskState, IsClosed};
 ghost use Rattle.pb_files.specs.Asked.{marked, Asked};
+ghost use Rattle.pb_files.specs.Pieces.{is_finished, is_over, moves_pieces, IsByPieces};
 ghost use Rattle.pb_files.specs.Replay.{answers_as, has_slot, made_of, told_of};
 
 use crate::known::is_known;
@@ -21,6 +22,9 @@ pub trait Asks {
 
     /// It keeps to that iff each answer was what those files give.
     ghost answers: { (desk : Self) → (shown desk).keeps ≡ option_map_or (answers_as (asked desk).files) (asked desk).calls true };
+
+    /// It reads and writes by whole pieces: its calls of a system that moves each piece whole are few.
+    ghost by_pieces: { (desk : Self) → ForSome (asked desk).calls (IsByPieces (asked desk).files) };
 }
 
 /// The files and words of a system, each of whose answers is the system's. As a desk it tells what the system's calls show, where they
@@ -38,12 +42,16 @@ pub struct RealDesk<S: System + Drop> {
     write_faults: FaultCount,
     over: [bool; 5],
     finished: [bool; 2],
+    ghost moves: { ForSome (S.calls system) (λ calls. moves_pieces calls ≡ true) },
+    ghost at_ends: { (slot : ℕ) → marked reading slot ≡ true → ForSome (S.calls system) (λ calls. is_over slot calls ≡ marked over slot) },
+    ghost at_lasts: { (slot : ℕ) → marked writing slot ≡ true → ForSome (S.calls system) (λ calls. is_finished slot calls ≡ marked finished slot) },
     ghost has_file: { (slot : ℕ) → marked writing slot ≡ true → ForSome (S.calls system) (λ calls. has_slot slot (made_of calls) ≡ true) },
 }
 
 impl<S: System + Drop> Asks for RealDesk<S> {
     ghost use Rattle.std.specs.Prelude.{refl};
     ghost use Rattle.pb_files.specs.Asked.{replayed};
+    ghost use Rattle.pb_files.specs.inner.PieceLaws.{all_by_pieces};
 
     ghost shown = { λ desk. replayed (S.files desk.system) (S.calls desk.system) desk.reading desk.writing desk.read_faults desk.write_faults desk.over desk.finished };
 
@@ -52,11 +60,15 @@ impl<S: System + Drop> Asks for RealDesk<S> {
     ghost shows = { λ desk. refl };
 
     ghost answers = { λ desk. refl };
+
+    ghost by_pieces = { λ desk. all_by_pieces (S.files desk.system) (S.calls desk.system) desk.moves };
 }
 
 impl<S: System + Drop> RealDesk<S> {
-    /// The desk of a system, with nothing open and no fault counted. Of files it knows standard output alone.
+    /// The desk of a system, with nothing open and no fault counted. Of files it knows standard output alone. What the system was asked
+    /// before went by whole pieces.
     pub fn new(system: S) -> Self
+        requires pieces { ForSome (S.calls system) (λ calls. moves_pieces calls ≡ true) }
         // Nothing is open.
         ensures closed { IsClosed (⟦<RealDesk<S> as Desk>⟧.state result) }
         // The desk shows what the calls up to now show over the files that are supposed, and is not visible where no calls are kept.
