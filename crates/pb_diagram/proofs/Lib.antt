@@ -15,3 +15,14 @@ pub mod SearchSteps
 pub mod SideSteps
 pub mod WholeSteps
 pub mod WantSteps
+pub mod GuardedNodes
+pub mod GuardedOps
+pub mod GuardedReach
+pub mod GuardedTiers
+pub mod GuardedPieces
+pub mod GuardedRungs
+pub mod GuardedTurns
+pub mod GuardedHanding
+pub mod GuardedLevels
+pub mod GuardedPhases
+pub mod GuardedWhole

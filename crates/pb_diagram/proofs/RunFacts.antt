@@ -1,5 +1,5 @@
 -- Intervals from the last to the first: what is found among them, and what they are after an insertion.
-use Rattle.std.proofs.Common.{◌≡◌, ◌∙◌, ◌<◌, ◌≤◌, ◌+◌, ◌-◌, ◌⊎◌, ◌++◌, ℕ, true, false, leb, ltb, List, [], ◌∷◌, length, take, drop, get_or, reverse, refl, sym, ap, subst, arith, inl, inr, zero, suc}
+use Rattle.std.proofs.Common.{◌≡◌, ◌∙◌, ◌<◌, ◌≤◌, ◌-◌, ◌⊎◌, ◌++◌, ℕ, true, false, leb, ltb, List, [], ◌∷◌, length, take, drop, get_or, reverse, refl, sym, ap, subst, arith, inl, inr, zero, suc}
 use Rattle.std.specs.Prelude.{Contains}
 use Rattle.std.specs.List.{insert}
 use Rattle.std.specs.List.Sorted.{IsPartitionedBy, IsPartitionPoint, IsPermutation}

@@ -6,3 +6,6 @@ pub mod Levels
 pub mod Sums
 pub mod inner
 pub mod examples
+pub mod Guards
+pub mod GuardedSteps
+pub mod DiagramDerivation

@@ -3,4 +3,9 @@ pub mod Layers
 pub mod Links
 pub mod Nodes
 pub mod NodesAt
+pub mod OneProof
 pub mod Wants
+pub mod Tiers
+pub mod Parts
+pub mod Rungs
+pub mod Ladders

@@ -8,8 +8,10 @@ ghost use Rattle.pb_diagram.specs.Levels.{levels_of};
 use crate::counts::{count_clauses, count_nodes};
 use crate::derivation::{Derivation, negated_terms};
 use crate::emission::emit_whole;
+use crate::guarded::Guarded;
 use crate::known::Known;
 use crate::level::Level;
+use crate::nodes::{are_narrow, list_nodes};
 use crate::search::known_levels;
 use crate::shape::Shape;
 use pb_base::{NoMemory, Term};
@@ -47,9 +49,11 @@ fn list_levels(alloc: Global, known: Vec<Known>) -> Result<Vec<Level>, AllocErro
 }
 
 impl Diagram {
-    ghost use Rattle.std.specs.Prelude.{◌≡◌, ◌<◌, ◌^◌, ℕ, IfOk};
+    ghost use Rattle.std.specs.Prelude.{◌≡◌, ◌<◌, ◌≤◌, ◌+◌, ◌^◌, ℕ, IfOk};
     ghost use Rattle.pb_norm.specs.Constraints.{weight};
     ghost use Rattle.pb_family.specs.Budgets.{IsOverExactly, IfFits};
+    ghost use Rattle.pb_family.specs.StepSinks.{HandsSteps};
+    ghost use Rattle.pb_diagram.specs.DiagramSteps.{diagram_steps};
 
     /// The diagram of a sum, if it has no more nodes than the budget. The search ends at the first node over the budget, which
     /// bounds the memory and time that it takes; no clause says so.
@@ -97,6 +101,30 @@ impl Diagram {
             fresh,
             clauses,
         })
+    }
+
+    /// Hands over the derivation with each node over its sum.
+    fn derive_plainly<T: StepSink>(
+        &self,
+        alloc: Global,
+        first: u32,
+        id: u64,
+        sink: &mut T,
+    ) -> SinkResult
+        requires low { 1 ≤ first }
+        requires fits { first + diagram_fresh (sum_within self.now.terms.items self.now.bound) ≤ 2 ^ 31 }
+        requires few { (T.state sink.old).next ≤ 2 ^ 61 }
+        ensures { HandsSteps (diagram_steps (sum_within self.now.terms.items self.now.bound) first id (T.state sink.old).next) result (T.state sink.old) (T.state sink.new) }
+    {
+        let negated = negated_terms(alloc, self.terms.as_slice())?;
+        let derivation = Derivation {
+            shape: self.shape(),
+            negated: negated.as_slice(),
+            first,
+            own: id,
+            base: sink.next_id(),
+        };
+        derivation.derive(alloc, sink)
     }
 
     /// Its terms and levels.
@@ -159,29 +187,36 @@ impl Strong for Diagram {
 
 impl Derive for Diagram {
     ghost use Rattle.pb_norm.specs.BoundedSums.{sum_within};
-    ghost use Rattle.pb_diagram.specs.DiagramSteps.{diagram_steps};
-    ghost use Rattle.pb_diagram.specs.laws.DiagramDerives.{diagram_derives, diagram_lines};
-    ghost use Rattle.pb_diagram.specs.laws.DiagramShort.{diagram_sayable, diagram_short};
+    ghost use Rattle.pb_diagram.specs.DiagramDerivation.{derivation_steps};
+    ghost use Rattle.pb_diagram.specs.laws.DerivationLaws.{derivation_derives, derivation_lines, derivation_sayable, derivation_short};
 
-    ghost step_list = { λ f. diagram_steps (sum_within f.terms.items f.bound) };
+    ghost step_list = { λ f. derivation_steps (sum_within f.terms.items f.bound) };
 
     fn derive<T: StepSink>(&self, alloc: Global, first: u32, id: u64, sink: &mut T) -> SinkResult {
-        let negated = negated_terms(alloc, self.terms.as_slice())?;
-        let derivation = Derivation {
-            shape: self.shape(),
-            negated: negated.as_slice(),
+        let shape = self.shape();
+        let nodes = list_nodes(alloc, shape)?;
+        let levels = nodes.as_slice();
+        let most = 255u64.min(shape.terms.len() as u64);
+        if !are_narrow(most, levels) {
+            return self.derive_plainly(alloc, first, id, sink);
+        }
+        let base = sink.next_id();
+        let guarded = Guarded {
+            terms: shape.terms,
+            levels,
+            fresh: self.fresh,
             first,
             own: id,
-            base: sink.next_id(),
+            base,
         };
-        derivation.derive(alloc, sink)
+        guarded.derive(alloc, sink)
     }
 
-    ghost derives = { λ f first id db below ready. diagram_derives (sum_within f.terms.items f.bound) f.proper f.light first below id db ready };
+    ghost derives = { λ f first id db below ready. derivation_derives (sum_within f.terms.items f.bound) f.proper f.light first below id db ready };
 
-    ghost few_steps = { λ f first id next. diagram_lines (sum_within f.terms.items f.bound) first id next };
+    ghost few_steps = { λ f first id next. derivation_lines (sum_within f.terms.items f.bound) f.proper first id next };
 
-    ghost sayable = { λ f first id next original start. diagram_sayable (sum_within f.terms.items f.bound) f.proper f.light first id next original start };
+    ghost sayable = { λ f first id next original start. derivation_sayable (sum_within f.terms.items f.bound) f.proper f.light first id next original start };
 
-    ghost short = { λ f first id next original start. diagram_short (sum_within f.terms.items f.bound) f.proper f.light first id next original start };
+    ghost short = { λ f first id next original start. derivation_short (sum_within f.terms.items f.bound) f.proper f.light first id next original start };
 }

@@ -19,8 +19,7 @@ use Rattle.pb_totalizer.specs.laws.TotalizerDerives.{totalizer_derives, totalize
 use Rattle.pb_totalizer.specs.laws.TotalizerShort.{totalizer_sayable, totalizer_short}
 use Rattle.pb_gentot.specs.laws.GeneralizedDerives.{generalized_derives, generalized_lines}
 use Rattle.pb_gentot.specs.laws.GeneralizedShort.{generalized_sayable, generalized_short}
-use Rattle.pb_diagram.specs.laws.DiagramDerives.{diagram_derives, diagram_lines}
-use Rattle.pb_diagram.specs.laws.DiagramShort.{diagram_sayable, diagram_short}
+use Rattle.pb_diagram.specs.laws.DerivationLaws.{derivation_derives, derivation_lines, derivation_sayable, derivation_short}
 use Rattle.pb_adder.specs.laws.AdderDerives.{adder_derives, suits_adder}
 use Rattle.pb_adder.specs.laws.AdderShort.{adder_sayable, adder_short}
 use Rattle.pb_adder.specs.laws.StepCounts.{adder_lines}
@@ -38,7 +37,7 @@ sum_derives treatment.Ladder m h first id db below ready = ladder_derives m h.su
 sum_derives treatment.Product m h first id db below ready = product_derives m h.suits.one h.suits.units h.proper.distinct h.few first id db below ready
 sum_derives treatment.Counter m h first id db below ready = rows_derive m h.suits.units h.proper h.few first id db below ready
 sum_derives treatment.Totalizer m h first id db below ready = totalizer_derives m h.suits.units h.proper h.few first id db below ready
-sum_derives treatment.Diagram m h first id db below ready = diagram_derives m h.proper h.light first below id db ready
+sum_derives treatment.Diagram m h first id db below ready = derivation_derives m h.proper h.light first below id db ready
 sum_derives treatment.Tree m h first id db below ready = generalized_derives m h.proper h.light first id db below ready
 sum_derives treatment.Adder m h first id db below ready = adder_derives m first id db (suits_adder m h.proper h.light) below ready
 sum_derives t m h first id db below ready = absurd h.suits
@@ -50,7 +49,7 @@ sum_few treatment.Ladder m h first id next = ladder_few m.terms first id next h.
 sum_few treatment.Product m h first id next = product_few m.terms first id next
 sum_few treatment.Counter m h first id next = rows_lines m h.suits.units h.proper h.few first id next
 sum_few treatment.Totalizer m h first id next = totalizer_lines m h.suits.units h.proper first id next
-sum_few treatment.Diagram m h first id next = diagram_lines m first id next
+sum_few treatment.Diagram m h first id next = derivation_lines m h.proper first id next
 sum_few treatment.Tree m h first id next = generalized_lines m h.proper first id next
 sum_few treatment.Adder m h first id next = adder_lines m.terms m.bound first id next
 sum_few t m h first id next = absurd h.suits
@@ -63,7 +62,7 @@ sum_sayable treatment.Ladder m h room first id next original start = ladder_saya
 sum_sayable treatment.Product m h room first id next original start = product_sayable m.terms first id next original start h.few
 sum_sayable treatment.Counter m h room first id next original start = rows_sayable m h.suits.units h.proper h.few first id next original start
 sum_sayable treatment.Totalizer m h room first id next original start = totalizer_sayable m h.suits.units h.proper h.few room first id next original start
-sum_sayable treatment.Diagram m h room first id next original start = diagram_sayable m h.proper h.light first id next original start
+sum_sayable treatment.Diagram m h room first id next original start = derivation_sayable m h.proper h.light first id next original start
 sum_sayable treatment.Tree m h room first id next original start = generalized_sayable m h.proper h.light room first id next original start
 sum_sayable treatment.Adder m h room first id next original start = adder_sayable m first id next (suits_adder m h.proper h.light) original start
 sum_sayable t m h room first id next original start = absurd h.suits
@@ -76,7 +75,7 @@ sum_short treatment.Ladder m h room first id next original start short = ladder_
 sum_short treatment.Product m h room first id next original start short = product_short m.terms first id next original start h.few short
 sum_short treatment.Counter m h room first id next original start short = rows_short m h.suits.units h.proper h.few first id next original start short
 sum_short treatment.Totalizer m h room first id next original start short = totalizer_short m h.suits.units h.proper h.few room first id next original start short
-sum_short treatment.Diagram m h room first id next original start short = diagram_short m h.proper h.light first id next original start short
+sum_short treatment.Diagram m h room first id next original start short = derivation_short m h.proper h.light first id next original start short
 sum_short treatment.Tree m h room first id next original start short = generalized_short m h.proper h.light room first id next original start short
 sum_short treatment.Adder m h room first id next original start short = adder_short m first id next (suits_adder m h.proper h.light) original start
 sum_short t m h room first id next original start short = absurd h.suits

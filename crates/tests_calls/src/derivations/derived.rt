@@ -64,11 +64,11 @@ const CASES: &[(Kind, &str, &str)] = &[
     // No clause has need of what says nothing of an output, nor of what an output of the root below the last one means where it is true.
     (Kind::Totalizer, FOUR, "81: 12 19 0 0"),
     (Kind::Totalizer, FIVE, "124: 18 28 0 0"),
-    (Kind::Diagram, FALLING, "22: 3 3 0 0"),
-    (Kind::Diagram, MEETING, "34: 5 5 0 0"),
-    (Kind::Diagram, MIXED, "39: 6 6 0 0"),
-    (Kind::Diagram, GREAT, "22: 3 3 0 0"),
-    (Kind::Diagram, NEAR, "22: 3 3 0 0"),
+    (Kind::Diagram, FALLING, "33: 5 4 0 0"),
+    (Kind::Diagram, MEETING, "52: 6 7 0 0"),
+    (Kind::Diagram, MIXED, "59: 8 9 0 0"),
+    (Kind::Diagram, GREAT, "33: 5 4 0 0"),
+    (Kind::Diagram, NEAR, "33: 5 4 0 0"),
     // No clause has need of what an output of the root below the last one means where it is true.
     (Kind::Tree, FALLING, "49: 8 12 0 0"),
     (Kind::Tree, GREAT, "49: 8 12 0 0"),
