@@ -90,7 +90,6 @@ divisor_light c = by_test (all_weigh (first_coef ts) ts)
     by_test false = omega arith
 
 room_of : (t : Treatment) (m : BoundedSum) → sum_count t m ≤ 2 ^ 56 → HasRoom t m
-room_of treatment.Totalizer m h = omega (arith, h)
 room_of treatment.Tree m h = omega (arith, h)
 room_of t m h = tt
 

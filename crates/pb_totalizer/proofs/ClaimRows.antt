@@ -5,6 +5,7 @@ use Rattle.std.specs.List.{flat_map, range_with_len}
 use Rattle.std.proofs.lemmas.List.Concat.{flat_map-cons}
 use Rattle.std.proofs.lemmas.List.Elements.{All-map}
 use Rattle.std.proofs.lemmas.List.FromFn.{length-map-range_with_len}
+use Rattle.pb_steps.specs.declared.step.Step.TheVariants.{Out}
 use Rattle.pb_steps.specs.Steps.{takes_id}
 use Rattle.pb_derive.specs.Claims.{Claim, claim_steps}
 use Rattle.pb_family.specs.Derivations.{pieces}
@@ -14,29 +15,26 @@ use Rattle.pb_family.proofs.Deriving.{Deriving, deriving_from, deriving_as, deri
 use Rattle.pb_family.proofs.Sequence.{claims_ids, claims_split, claim_pieces}
 use Rattle.pb_tree.proofs.Extending.{all_from_each}
 use Rattle.pb_tree.proofs.TreeHanded.{range_shift}
-use Rattle.pb_totalizer.specs.Totalizer.{partners}
-use Rattle.pb_totalizer.specs.declared.joint.Joint.{Joint}
-use Rattle.pb_totalizer.specs.inner.Joints.{joint_claim, joint_row}
-use Rattle.pb_totalizer.specs.inner.Sides.{side_count}
+
+-- claims that have the same steps, whatever their clauses are
+pub claims_same : {X : Type 0} (f g : X → Claim) → ((x : X) → (f x).step ≡ (g x).step) → (next : ℕ) (xs : List X) → claim_steps next (map f xs) ≡ claim_steps next (map g xs)
+claims_same f g same next [] = refl
+claims_same f g same next (x ∷ xs) = λ i. same x i ∷ Out next ∷ claims_same f g same (next + 1) xs i
 
 -- each takes an id
-pub row_takes : (n : Joint) (lefts rights i : ℕ) → All (λ c. takes_id c.step ≡ true) (joint_row n lefts rights i)
-row_takes n lefts rights i =
-    All-map (λ (c : Claim). takes_id c.step ≡ true) (joint_claim n lefts rights i) (partners n.cap (side_count n.right) i)
-    (all_from_each (λ (j : ℕ). takes_id (joint_claim n lefts rights i j).step ≡ true) (partners n.cap (side_count n.right) i) (λ j h. refl))
+pub row_takes : (claim : ℕ → Claim) → ((j : ℕ) → takes_id (claim j).step ≡ true) → (js : List ℕ) → All (λ c. takes_id c.step ≡ true) (map claim js)
+row_takes claim takes js = All-map (λ (c : Claim). takes_id c.step ≡ true) claim js (all_from_each (λ (j : ℕ). takes_id (claim j).step ≡ true) js (λ j h. takes j))
 
-module _ (n : Joint) (lefts rights i low count : ℕ) (same : range_with_len low count ≡ partners n.cap (side_count n.right) i) where
-  shifted : joint_row n lefts rights i ≡ map (λ k. joint_claim n lefts rights i (low + k)) (range_with_len 0 count)
-  shifted =
-      ap (map (joint_claim n lefts rights i)) (sym same ∙ ap (λ (a : ℕ). range_with_len a count) (let e : low ≡ low + 0 = omega arith in e))
-      ∙ range_shift (joint_claim n lefts rights i) low 0 count
+module _ (claim : ℕ → Claim) (js : List ℕ) (low count : ℕ) (same : range_with_len low count ≡ js) where
+  shifted : map claim js ≡ map (λ k. claim (low + k)) (range_with_len 0 count)
+  shifted = ap (map claim) (sym same ∙ ap (λ (a : ℕ). range_with_len a count) (let e : low ≡ low + 0 = omega arith in e)) ∙ range_shift claim low 0 count
 
   -- one number after another
-  pub row_pieces : (next : ℕ) → pieces (λ id k. claim_steps id (joint_claim n lefts rights i (low + k) ∷ [])) 1 next 0 count ≡ claim_steps next (joint_row n lefts rights i)
-  row_pieces next = sym (ap (claim_steps next) shifted ∙ claim_pieces (λ k. joint_claim n lefts rights i (low + k)) next 0 count)
+  pub row_pieces : (next : ℕ) → pieces (λ id k. claim_steps id (claim (low + k) ∷ [])) 1 next 0 count ≡ claim_steps next (map claim js)
+  row_pieces next = sym (ap (claim_steps next) shifted ∙ claim_pieces (λ k. claim (low + k)) next 0 count)
 
-  pub row_length : length (joint_row n lefts rights i) ≡ count
-  row_length = ap length shifted ∙ length-map-range_with_len (λ k. joint_claim n lefts rights i (low + k)) 0 count
+  pub row_length : length (map claim js) ≡ count
+  row_length = ap length shifted ∙ length-map-range_with_len (λ k. claim (low + k)) 0 count
 
 -- of n rows of clauses, the first k were taken
 pub record ClaimRowing {R : Type 0} (row : ℕ → List Claim) (n k : ℕ) (old now : StepState R) : Type 0 where

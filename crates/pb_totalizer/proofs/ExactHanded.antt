@@ -17,7 +17,7 @@ use Rattle.pb_tree.proofs.TreeRows.{leaves_of}
 use Rattle.pb_totalizer.specs.Exact.{outputs_of, limits}
 use Rattle.pb_totalizer.specs.ExactSteps.{after_ids, after_weakened, limit_justification, limit_pairs, limit_justifications, own_justifications, least_justification, exact_justifications}
 use Rattle.pb_totalizer.specs.Totalizer.{totalizer}
-use Rattle.pb_totalizer.specs.TotalizerSteps.{totalizer_pairs}
+use Rattle.pb_totalizer.specs.OutputSteps.{totalizer_pairs}
 use Rattle.pb_totalizer.specs.declared.node_ids.Source.{Source}
 use Rattle.pb_totalizer.specs.inner.ExactSources.{nodes_justifications, exact_all_justifications}
 use Rattle.pb_totalizer.specs.inner.LimitSources.{seconds_from, ids_after, weakened_after, limit_given, limits_given, least_given}

@@ -19,7 +19,7 @@ use Rattle.pb_tree.proofs.TreeHanded.{range_shift, bare, bare_same}
 use Rattle.pb_tree.proofs.TreeRows.{leaves_of}
 use Rattle.pb_totalizer.specs.Exact.{outputs_of}
 use Rattle.pb_totalizer.specs.Totalizer.{partners, totalizer}
-use Rattle.pb_totalizer.specs.TotalizerSteps.{totalizer_pairs}
+use Rattle.pb_totalizer.specs.OutputSteps.{totalizer_pairs}
 use Rattle.pb_totalizer.specs.declared.node_ids.NodeIds.{NodeIds}
 use Rattle.pb_totalizer.specs.declared.node_ids.Source.{Source}
 use Rattle.pb_totalizer.specs.declared.polarity.Direction.{Direction}

@@ -1,14 +1,16 @@
 -- The steps of a node over its two parts, as the code has them.
-use Rattle.std.proofs.Common.{◌≡◌, ◌+◌, ◌-◌, ◌*◌, ◌∙◌, ◌++◌, ℕ, zero, suc, pos, List, [], ◌∷◌, map, refl, sym, ap, subst, arith}
+use Rattle.std.proofs.Common.{◌≡◌, ◌≤◌, ◌<◌, ◌+◌, ◌-◌, ◌*◌, ◌∙◌, ◌++◌, inl, inr, ℕ, zero, suc, pos, Bool, cond, List, [], ◌∷◌, map, refl, sym, ap, subst, arith}
+use Rattle.std.specs.Prelude.{min, nat_lt}
 use Rattle.std.specs.List.{range_with_len, flat_map}
+use Rattle.std.proofs.lemmas.Bool.{cases_lt, lt-ltb, le-ltb}
 use Rattle.std.proofs.lemmas.List.{map-append}
 use Rattle.pb_base.specs.declared.literal.Term.{Term}
 use Rattle.pb_norm.specs.Constraints.{Weighted, weight, weighted, weights}
 use Rattle.pb_steps.specs.declared.op.PolOp.{PolOp}
 use Rattle.pb_steps.specs.declared.op.PolOp.TheVariants.{Push, Add, Mul, Div}
 use Rattle.pb_steps.specs.declared.step.Step.{Step}
-use Rattle.pb_steps.specs.declared.step.Step.TheVariants.{Pol, Out}
-use Rattle.pb_derive.specs.Claims.{Claim, claim_steps}
+use Rattle.pb_steps.specs.declared.step.Step.TheVariants.{Pol}
+use Rattle.pb_derive.specs.Claims.{claim_steps}
 use Rattle.pb_derive.specs.Deletions.{deletion_steps}
 use Rattle.pb_derive.specs.Ones.{ones}
 use Rattle.pb_derive.specs.Reifications.{reification_steps}
@@ -18,21 +20,25 @@ use Rattle.pb_family.specs.Derivations.{pieces}
 use Rattle.pb_family.specs.StepSinks.{StepState, TakesSteps}
 use Rattle.pb_family.proofs.Sequence.{reification_pieces}
 use Rattle.pb_tree.specs.Pairs.{Pair}
-use Rattle.pb_tree.specs.Scheme.{values, fresh_of}
+use Rattle.pb_tree.specs.Scheme.{values, fresh_of, own_count_of}
 use Rattle.pb_tree.specs.Tree.{Tree}
 use Rattle.pb_tree.specs.TreeSteps.{reifications_from}
 use Rattle.pb_totalizer.specs.Exact.{outputs_of}
 use Rattle.pb_totalizer.specs.Totalizer.{node_clause_count, partners, totalizer}
-use Rattle.pb_totalizer.specs.TotalizerSteps.{node_meanings, part_size, pair_step, pair_claim, node_claims, count_ops, totalizer_pairs}
+use Rattle.pb_totalizer.specs.OutputSteps.{node_meanings, part_size, pair_step, pair_claim, node_claims, totalizer_pairs, narrow_node_steps}
+use Rattle.pb_totalizer.specs.TotalizerSteps.{count_ops}
 use Rattle.pb_totalizer.specs.declared.joint.Joint.{Joint}
 use Rattle.pb_totalizer.specs.declared.phase.Phase.{Phase}
 use Rattle.pb_totalizer.specs.declared.phase.Phase.TheVariants.{Meanings, Sums, Clauses}
-use Rattle.pb_totalizer.specs.inner.Joints.{meaning_of, joint_meanings, joint_claim, joint_claims}
+use Rattle.pb_totalizer.specs.inner.Joints.{meaning_of, joint_meanings, joint_claim, joint_claims, narrow_steps, narrow_ids, large_ids, joint_ids}
 use Rattle.pb_totalizer.specs.inner.Phases.{joint_in, joint_ids_in, node_in, node_ids_in}
 use Rattle.pb_totalizer.specs.inner.Sides.{side_lits, side_count, side_size, side_others}
+use Rattle.pb_totalizer.specs.laws.NodeForms.{lines_of, narrow_lines_of, large_lines, small_lines}
 use Rattle.pb_totalizer.specs.laws.PairRows.{rows_by_pairs}
 use Rattle.pb_totalizer.specs.laws.TotalizerLaws.{node_length}
 use Rattle.pb_totalizer.specs.laws.UnitTerms.{unit_term, units_are}
+use Rattle.pb_totalizer.proofs.ClaimRows.{claims_same}
+use Rattle.pb_totalizer.proofs.LargeSteps.{large_same, large_counted}
 use Rattle.pb_totalizer.proofs.SidesOf.{IsJoint, side_length, joint_outputs, joint_last, joint_inputs}
 
 -- ---- what the outputs mean
@@ -81,12 +87,6 @@ count_more row k {mul} {div} by over =
 pub taken_as : {R : Type 0} {ss ts : List Step} {a b : StepState R} → ss ≡ ts → TakesSteps ss a b → TakesSteps ts a b
 taken_as {a = a} {b} same taken = subst (λ (xs : List Step). TakesSteps xs a b) same taken
 
--- ---- claims that have the same steps, whatever their clauses are
-
-claims_same : {X : Type 0} (f g : X → Claim) → ((x : X) → (f x).step ≡ (g x).step) → (next : ℕ) (xs : List X) → claim_steps next (map f xs) ≡ claim_steps next (map g xs)
-claims_same f g same next [] = refl
-claims_same f g same next (x ∷ xs) = λ i. same x i ∷ Out next ∷ claims_same f g same (next + 1) xs i
-
 module _ (bound : ℕ) (l r : Tree) (first id : ℕ) (n : Joint) (h : IsJoint bound l r first id n) where
   abbrev middle : ℕ
   middle = first + fresh_of (totalizer bound) l
@@ -118,17 +118,42 @@ module _ (bound : ℕ) (l r : Tree) (first id : ℕ) (n : Joint) (h : IsJoint bo
       (λ p i. pair_step (h.row_id i + 2 * (p.left + p.right - 1) + 1) (h.left.others i next + p.left) (h.right.others i (next + h.left.size i) + p.right) (joint_inputs bound l r first id n h i))
       (next + (part_size bound l + part_size bound r)) ps
 
+  narrow_same : (next : ℕ) → narrow_steps n next ≡ narrow_node_steps bound l r first id next
+  narrow_same next = λ i.
+      (h.left.lines i next ++ h.right.lines i (next + h.left.size i))
+      ++ (claims_are next i
+      ++ deletion_steps (h.left.size i + h.right.size i) next 1)
+
+  -- ---- how many ids they take
+
+  abbrev ids_by : Bool → ℕ
+  ids_by b = cond {A = ℕ} b (large_ids n) (narrow_ids n)
+
+  narrow_counted : narrow_ids n ≡ narrow_lines_of bound l r + own_count_of (totalizer bound) l r
+  narrow_counted = λ i. h.left.size i + h.right.size i + node_clause_count (h.cap i) (h.left.count i) (h.right.count i)
+
+  ids_counted : joint_ids n ≡ lines_of bound l r + own_count_of (totalizer bound) l r
+  ids_counted =
+      let own : ℕ = own_count_of (totalizer bound) l r in
+      let least : ℕ = min (side_count n.left) (side_count n.right) in
+      let same : least ≡ min (outputs_of bound l) (outputs_of bound r) = λ i. min (h.left.count i) (h.right.count i) in
+      elim (cases_lt 32 least) as (λ _. joint_ids n ≡ lines_of bound l r + own) [
+        | inl more ↦
+            let large : 32 < min (outputs_of bound l) (outputs_of bound r) = omega (arith, more, same) in
+            ap ids_by (lt-ltb 32 least more) ∙ large_counted bound l r first id n h (omega (arith, large)) ∙ ap (λ (k : ℕ). k + own) (sym (large_lines bound l r large))
+        | inr few ↦
+            let small : min (outputs_of bound l) (outputs_of bound r) ≤ 32 = omega (arith, few, same) in
+            ap ids_by (le-ltb 32 least few) ∙ narrow_counted ∙ ap (λ (k : ℕ). k + own) (sym (small_lines bound l r small))
+      ]
+
   -- ---- by phase
 
   pub joint_same : (phase : Phase) (left right next : ℕ) → joint_in phase n left right next ≡ node_in phase bound l r first id left right next
   joint_same Meanings left right next = ap (reification_steps next) meanings_same
   joint_same Sums left right next = λ i. Pol (count_ops (h.row_id i) (joint_last bound l r first id n h i) ++ (h.left.gives i left ++ h.right.gives i right)) ∷ []
-  joint_same Clauses left right next = λ i.
-      (h.left.lines i next ++ h.right.lines i (next + h.left.size i))
-      ++ (claims_are next i
-      ++ deletion_steps (h.left.size i + h.right.size i) next 1)
+  joint_same Clauses left right next = λ i. cond {A = List Step} (nat_lt 32 (min (h.left.count i) (h.right.count i))) (large_same bound l r first id n h next i) (narrow_same next i)
 
   pub joint_ids_same : (phase : Phase) → joint_ids_in phase n ≡ node_ids_in phase bound l r
   joint_ids_same Meanings = ap (λ (k : ℕ). 2 * k) (joint_outputs bound l r first id n h)
   joint_ids_same Sums = refl
-  joint_ids_same Clauses = λ i. h.left.size i + h.right.size i + node_clause_count (h.cap i) (h.left.count i) (h.right.count i)
+  joint_ids_same Clauses = ids_counted

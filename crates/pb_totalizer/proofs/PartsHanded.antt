@@ -11,7 +11,7 @@ use Rattle.pb_tree.proofs.HandingLaws.{same_then}
 use Rattle.pb_totalizer.specs.Exact.{outputs_of}
 use Rattle.pb_totalizer.specs.ExactSteps.{limit_justifications, own_justifications}
 use Rattle.pb_totalizer.specs.Totalizer.{totalizer}
-use Rattle.pb_totalizer.specs.TotalizerSteps.{totalizer_pairs}
+use Rattle.pb_totalizer.specs.OutputSteps.{totalizer_pairs}
 use Rattle.pb_totalizer.specs.declared.node_ids.Handed.{Handed}
 use Rattle.pb_totalizer.specs.declared.node_ids.Source.{Source}
 use Rattle.pb_totalizer.specs.inner.ExactSources.{own_given}

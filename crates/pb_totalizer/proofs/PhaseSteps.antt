@@ -11,12 +11,13 @@ use Rattle.pb_tree.specs.Tree.{Tree, empty, leaf, node}
 use Rattle.pb_tree.proofs.PairCounts.{count-append}
 use Rattle.pb_tree.proofs.TreeReifications.{length-reifications_from}
 use Rattle.pb_totalizer.specs.Exact.{outputs_of}
-use Rattle.pb_totalizer.specs.TotalizerSteps.{inputs, before, node_meanings, meanings, nodes_steps, node_steps, count_ops, give_way, nodes_in, sum_at, sum_lines}
+use Rattle.pb_totalizer.specs.OutputSteps.{inputs, before, node_meanings, meanings}
+use Rattle.pb_totalizer.specs.TotalizerSteps.{nodes_steps, node_steps, count_ops, give_way, nodes_in, sum_at, sum_lines}
 use Rattle.pb_totalizer.specs.Totalizer.{totalizer}
 use Rattle.pb_totalizer.specs.declared.phase.Phase.{Phase}
 use Rattle.pb_totalizer.specs.declared.phase.Phase.TheVariants.{Meanings, Sums, Clauses}
 use Rattle.pb_totalizer.specs.inner.Phases.{node_in, node_ids_in, phase_steps, phase_ids}
-use Rattle.pb_totalizer.specs.laws.OutputFine.{ids_of, node-ids}
+use Rattle.pb_totalizer.specs.laws.NodesFine.{ids_of, node-ids}
 
 -- ---- how many ids
 

@@ -22,7 +22,8 @@ use Rattle.pb_tree.specs.Tree.{Tree, node, tree_of}
 use Rattle.pb_tree.proofs.PairCounts.{count-append}
 use Rattle.pb_tree.proofs.SplitTerms.{halves_of}
 use Rattle.pb_tree.proofs.Splitting.{split_sum}
-use Rattle.pb_totalizer.specs.TotalizerSteps.{before, meanings, nodes_steps, nodes_in, sum_at, sum_lines, root_claim, totalizer_steps_of}
+use Rattle.pb_totalizer.specs.OutputSteps.{before, meanings}
+use Rattle.pb_totalizer.specs.TotalizerSteps.{nodes_steps, nodes_in, sum_at, sum_lines, root_claim, totalizer_steps_of}
 use Rattle.pb_totalizer.specs.Totalizer.{totalizer}
 use Rattle.pb_totalizer.specs.declared.phase.Phase.TheVariants.{Meanings, Sums, Clauses}
 use Rattle.pb_totalizer.specs.declared.root.Root.{Root}
@@ -31,8 +32,9 @@ use Rattle.pb_totalizer.specs.inner.Roots.{root_given, root_sums, IsRoot, clause
 use Rattle.pb_totalizer.specs.inner.Sides.{IsSide}
 use Rattle.pb_totalizer.specs.inner.Wholes.{IsWhole}
 use Rattle.pb_totalizer.specs.laws.Counting.{own_in_grid}
-use Rattle.pb_totalizer.specs.laws.OutputCounts.{nodes-within}
-use Rattle.pb_totalizer.specs.laws.OutputFine.{ids_of, ids-few, claims-ids, nodes-ids}
+use Rattle.pb_totalizer.specs.laws.WholeCounts.{nodes-within}
+use Rattle.pb_totalizer.specs.laws.NodesFine.{ids_of, ids-few, nodes-ids}
+use Rattle.pb_totalizer.specs.laws.OutputFine.{claims-ids}
 use Rattle.pb_totalizer.specs.laws.OutputKnown.{length-meanings}
 use Rattle.pb_totalizer.specs.laws.OutputParts.{full_tree, ones-sum}
 use Rattle.pb_totalizer.specs.laws.Shares.{few_shared}
@@ -45,7 +47,7 @@ pub halved_whole : {ts : List Term} {bound first : ℕ} → IsWhole ts bound fir
 halved_whole {ts} whole = halves_of ts (take (length ts / 2) ts) (drop (length ts / 2) ts) (omega (arith, whole.from, whole.more)) refl refl
 
 pub whole_room : {ts : List Term} {bound first : ℕ} → IsWhole ts bound first
-    → (let t = tree_of (weights ts) in (nodes_in t ≤ 2 ^ 31) × (fresh_of (totalizer bound) t ≤ 2 ^ 31) × (ids_of bound t ≤ 2 ^ 60))
+    → (let t = tree_of (weights ts) in (nodes_in t ≤ 2 ^ 31) × (fresh_of (totalizer bound) t ≤ 2 ^ 31) × (ids_of bound t ≤ 2 ^ 61 - 2 ^ 56))
 whole_room {ts} {bound} whole =
     let t : Tree = tree_of (weights ts) in
     let long = length-map ts weighted in

@@ -13,7 +13,7 @@ use Rattle.pb_totalizer.specs.inner.RowParts.{row_parts}
 use Rattle.pb_totalizer.specs.inner.RowPieces.{tails_of, front_piece, tail_piece, row_count, row_piece}
 
 -- the first, and then the later ones
-first_and_later : (f g : ℕ → Step) (n : ℕ) → ((j : ℕ) → f (suc j) ≡ g j) → map f (range_with_len 0 (suc n)) ≡ f 0 ∷ map g (range_with_len 0 n)
+pub first_and_later : (f g : ℕ → Step) (n : ℕ) → ((j : ℕ) → f (suc j) ≡ g j) → map f (range_with_len 0 (suc n)) ≡ f 0 ∷ map g (range_with_len 0 n)
 first_and_later f g n same =
     ap (λ (ss : List Step). f 0 ∷ ss)
     (range_same f g 1 0 n (λ i h. ap f (let e : 1 + i ≡ suc i = omega arith in e) ∙ same i ∙ ap g (let e : i ≡ 0 + i = omega arith in e)))

@@ -10,8 +10,10 @@ use Rattle.pb_family.proofs.Ranges.{map_split, range_same}
 use Rattle.pb_tree.specs.Scheme.{fresh_of, output}
 use Rattle.pb_tree.specs.Tree.{Tree, leaf, node}
 use Rattle.pb_totalizer.specs.Exact.{outputs_of}
+use Rattle.pb_totalizer.specs.OutputBlocks.{block_lines, block_size, block_others_at, narrows_at}
 use Rattle.pb_totalizer.specs.OutputRows.{row_lines, row_size, others_at}
-use Rattle.pb_totalizer.specs.TotalizerSteps.{outputs, before, input_count, part_lines}
+use Rattle.pb_totalizer.specs.OutputSteps.{outputs, before, input_count, part_lines}
+use Rattle.pb_totalizer.specs.OutputWindows.{wide_lines}
 use Rattle.pb_totalizer.specs.Totalizer.{totalizer}
 use Rattle.pb_totalizer.specs.declared.joint.Joint.{Joint}
 use Rattle.pb_totalizer.specs.declared.side.Side.{Side}
@@ -39,6 +41,10 @@ leaf_side bound t first id lit same = record {
   lines = λ i next. part_lines bound (leaf (record { coef = t.coef; lit = same i })) first id next;
   size = refl;
   others = refl;
+  by_blocks = λ i next. wide_lines bound (leaf (record { coef = t.coef; lit = same i })) first id next;
+  blocks_size = refl;
+  blocks_others = refl;
+  blocks_narrows = refl;
   gives = refl;
 }
 
@@ -76,6 +82,10 @@ module _ (bound : ℕ) (l r : Tree) (first id : ℕ) (n : Joint) (h : IsJoint bo
     lines = λ i next. row_lines (h.row_first i) (h.row_id i) (joint_inputs i) (joint_last i) next;
     size = ap row_size joint_last;
     others = ap others_at joint_last;
+    by_blocks = λ i next. block_lines (h.row_first i) (h.row_id i) (joint_inputs i) (joint_last i) next;
+    blocks_size = ap block_size joint_last;
+    blocks_others = ap block_others_at joint_last;
+    blocks_narrows = ap narrows_at joint_last;
     gives = refl;
   }
 

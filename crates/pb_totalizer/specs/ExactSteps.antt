@@ -11,7 +11,7 @@ use Rattle.pb_tree.specs.TreeSteps.{leaves, reifications, output_ids, pair_justi
 use Rattle.pb_tree.specs.Scheme.{fresh_of, output}
 use Rattle.pb_totalizer.specs.Exact.{outputs_of, limits, limit_clause}
 use Rattle.pb_totalizer.specs.Totalizer.{totalizer}
-use Rattle.pb_totalizer.specs.TotalizerSteps.{totalizer_pairs}
+use Rattle.pb_totalizer.specs.OutputSteps.{totalizer_pairs}
 
 -- the second constraint of the output after an index; past the last one all leaves are weakened away
 abbrev pub after_ids : ℕ → Tree → ℕ → ℕ → List ℕ

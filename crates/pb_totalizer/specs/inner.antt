@@ -1,5 +1,8 @@
+pub mod BlockParts
+pub mod BlockPieces
 pub mod ExactSources
 pub mod Joints
+pub mod Larges
 pub mod LimitSources
 pub mod NodeClauses
 pub mod Numbers
@@ -12,3 +15,4 @@ pub mod Rows
 pub mod Sides
 pub mod Sources
 pub mod Wholes
+pub mod Windows

@@ -46,8 +46,8 @@ impl RowLines {
     ghost use Rattle.pb_totalizer.specs.OutputRows.{nothing_line, others_line};
     ghost use Rattle.pb_totalizer.specs.inner.RowPieces.{front_piece, tail_piece, tails_of};
 
-    // Hands over a line that says nothing.
-    fn derive_nothing<T: StepSink>(&self, alloc: Global, sink: &mut T) -> SinkResult
+    /// Hands over a line that says nothing.
+    pub fn derive_nothing<T: StepSink>(&self, alloc: Global, sink: &mut T) -> SinkResult
         requires few { (T.state sink.old).next < 2 ^ 62 }
         ensures { HandsSteps (nothing_line self.now.row.first ∷ []) result (T.state sink.old) (T.state sink.new) }
     {
@@ -78,8 +78,8 @@ impl RowLines {
         derive_line(alloc, &ops, sink)
     }
 
-    // The id of the first line about the last variables.
-    fn tails(&self) -> u64
+    /// The id of the first line about the last variables.
+    pub fn tails(&self) -> u64
         ensures { result ≡ tails_of self.now }
     {
         self.next + (1 + self.row.last)

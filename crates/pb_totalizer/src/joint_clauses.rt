@@ -2,11 +2,12 @@
 ghost use Rattle.std.specs.Prelude.{◌≤◌, ◌<◌, ◌+◌, ◌^◌, ℕ, ◌∷◌, [], length};
 ghost use Rattle.pb_derive.specs.Claims.{claim_steps};
 ghost use Rattle.pb_family.specs.StepSinks.{HandsFrom};
-ghost use Rattle.pb_totalizer.specs.inner.Joints.{joint_claim, joint_claims, joint_ids, joint_row, joint_steps};
+ghost use Rattle.pb_totalizer.specs.inner.Joints.{joint_claim, joint_claims, joint_ids, joint_row, joint_steps, narrow_ids, narrow_steps};
 ghost use Rattle.pb_totalizer.specs.inner.Numbers.{AreSummed};
 ghost use Rattle.pb_totalizer.specs.inner.Sides.{side_count};
 
 use crate::joint::Joint;
+use crate::large_clauses::derive_by_blocks;
 use crate::numbers::{Counts, numbers};
 use crate::polarity::Direction;
 use pb_family::{Pieces, SinkResult, StepSink, derive_deletion, derive_line, derive_pieces, over};
@@ -109,10 +110,10 @@ fn derive_claims<T: StepSink>(alloc: Global, of: &Claiming, sink: &mut T) -> Sin
     Ok(())
 }
 
-/// Hands over the lines about both parts, the clauses, and the deletion of those lines.
-pub fn derive_clauses<T: StepSink>(alloc: Global, node: &Joint, sink: &mut T) -> SinkResult
-    requires room { (T.state sink.old).next + joint_ids node.now < 2 ^ 62 }
-    ensures { HandsFrom (joint_steps node.now) result (T.state sink.old) (T.state sink.new) }
+// Hands over the lines about all outputs of both parts, the clauses, and the deletion of those lines.
+fn derive_by_outputs<T: StepSink>(alloc: Global, node: &Joint, sink: &mut T) -> SinkResult
+    requires room { (T.state sink.old).next + narrow_ids node.now < 2 ^ 62 }
+    ensures { HandsFrom (narrow_steps node.now) result (T.state sink.old) (T.state sink.new) }
 {
     let next = sink.next_id();
     node.left.derive_lines(alloc, sink)?;
@@ -126,4 +127,16 @@ pub fn derive_clauses<T: StepSink>(alloc: Global, node: &Joint, sink: &mut T) ->
     };
     derive_claims(alloc, &of, sink)?;
     derive_deletion(alloc, next, end - next, sink)
+}
+
+/// Hands over the clauses with all lines that they follow by, over all outputs of both parts or over blocks of them.
+pub fn derive_clauses<T: StepSink>(alloc: Global, node: &Joint, sink: &mut T) -> SinkResult
+    requires room { (T.state sink.old).next + joint_ids node.now < 2 ^ 62 }
+    ensures { HandsFrom (joint_steps node.now) result (T.state sink.old) (T.state sink.new) }
+{
+    if 32 < node.left.count().min(node.right.count()) {
+        derive_by_blocks(alloc, node, sink)
+    } else {
+        derive_by_outputs(alloc, node, sink)
+    }
 }

@@ -2,6 +2,9 @@
 #![tactic(auto)]
 
 mod along;
+mod block_claims;
+mod block_lines;
+mod block_parts;
 mod claims;
 mod derivation;
 mod emission;
@@ -13,6 +16,8 @@ mod joint;
 mod joint_clauses;
 mod joint_meanings;
 mod joint_sum;
+mod large_clauses;
+mod large_node;
 mod limit_claims;
 mod limits;
 mod node;
@@ -28,6 +33,7 @@ mod side;
 mod size;
 mod totalizer;
 mod whole;
+mod windows;
 
 pub use exact::Exact;
 pub use totalizer::Totalizer;

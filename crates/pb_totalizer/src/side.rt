@@ -6,6 +6,7 @@ ghost use Rattle.pb_family.specs.StepSinks.{HandsSteps};
 ghost use Rattle.pb_totalizer.specs.inner.Sides.{leaf_lines, row_lits, side_gives, side_lits};
 ghost use Rattle.pb_totalizer.specs.laws.UnitTerms.{unit_term};
 
+use crate::block_parts::derive_block_lines;
 use crate::fresh_row::FreshRow;
 use crate::row_lines::derive_row;
 use pb_base::{Lit, Term};
@@ -48,7 +49,7 @@ fn derive_leaf<T: StepSink>(alloc: Global, lit: &Lit, sink: &mut T) -> SinkResul
 impl Side {
     ghost use Rattle.std.specs.Prelude.{◌≡◌, ◌<◌, ◌+◌, ◌^◌, IfOk};
     ghost use Rattle.pb_family.specs.StepSinks.{HandsFrom};
-    ghost use Rattle.pb_totalizer.specs.inner.Sides.{side_count, side_lines, side_others, side_size};
+    ghost use Rattle.pb_totalizer.specs.inner.Sides.{side_count, side_lines, side_narrows, side_others, side_size, side_wide_lines, side_wide_others, side_wide_size};
 
     /// How many outputs there are.
     pub fn count(&self) -> u64
@@ -80,6 +81,42 @@ impl Side {
         match self {
             Side::Leaf(_) => next,
             Side::Node(row) => next + (1 + row.last) + (1 + row.last),
+        }
+    }
+
+    /// Hands over the lines about blocks of the outputs.
+    pub fn derive_blocks<T: StepSink>(&self, alloc: Global, sink: &mut T) -> SinkResult
+        requires few { (T.state sink.old).next + side_wide_size self.now < 2 ^ 62 }
+        ensures hands { HandsFrom (side_wide_lines self.now) result (T.state sink.old) (T.state sink.new) }
+        ensures next { IfOk result (λ _. (T.state sink.new).next ≡ (T.state sink.old).next + side_wide_size self.now) }
+    {
+        match self {
+            Side::Leaf(lit) => derive_leaf(alloc, lit, sink),
+            Side::Node(row) => derive_block_lines(alloc, *row, sink),
+        }
+    }
+
+    /// The id of the line about a block for a clause with no output, where the lines about blocks have the ids from `next` on.
+    pub fn block_others(&self, next: u64) -> u64
+        requires { next + side_wide_size self.now < 2 ^ 62 }
+        ensures { result ≡ side_wide_others self.now next }
+    {
+        match self {
+            Side::Leaf(_) => next,
+            Side::Node(row) => {
+                next + (1 + row.last) + (2 + row.last) + (1 + row.last) + (1 + row.last)
+            }
+        }
+    }
+
+    /// The id of the line about all outside the first block.
+    pub fn narrows(&self, next: u64) -> u64
+        requires { next + side_wide_size self.now < 2 ^ 62 }
+        ensures { result ≡ side_narrows self.now next }
+    {
+        match self {
+            Side::Leaf(_) => next + 1,
+            Side::Node(row) => self.block_others(next) + (2 + row.last),
         }
     }
 }

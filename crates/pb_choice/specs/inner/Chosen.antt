@@ -7,7 +7,7 @@ use Rattle.pb_choice.specs.declared.chosen.Chosen.TheVariants.{Pairwise, Ladder,
 use Rattle.pb_choice.specs.declared.treatment.Treatment.{Treatment}
 use Rattle.pb_choice.specs.Chosen.{sum_at, treatment_at}
 use Rattle.pb_choice.specs.inner.Suits.{Suits, IsDerivable, HasRoom}
-use Rattle.pb_choice.specs.laws.SumSizes.{totalizer_small, tree_small}
+use Rattle.pb_choice.specs.laws.SumSizes.{tree_small}
 
 -- the family is for the sum
 pub chosen_suits : (f : Chosen) → Suits (treatment_at f) (sum_at f)
@@ -36,7 +36,7 @@ chosen_room (Pairwise held) = tt
 chosen_room (Ladder held) = tt
 chosen_room (Product held) = tt
 chosen_room (Counter held) = tt
-chosen_room (Totalizer held) = omega (arith, totalizer_small held.sum held.class held.modest)
+chosen_room (Totalizer held) = tt
 chosen_room (Diagram held) = tt
 chosen_room (Tree held) = omega (arith, tree_small held.sum held.class held.modest)
 chosen_room (Adder held) = tt

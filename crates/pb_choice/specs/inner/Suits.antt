@@ -6,7 +6,6 @@ use Rattle.pb_norm.specs.declared.reduction.Rest.{Rest}
 use Rattle.pb_norm.specs.declared.reduction.Rest.TheVariants as rest
 use Rattle.pb_norm.specs.Classes.{IsCardinality, IsAtMostOne}
 use Rattle.pb_gentot.specs.Generalized.{generalized_size}
-use Rattle.pb_totalizer.specs.Totalizer.{totalizer_size}
 use Rattle.pb_choice.specs.declared.treatment.Treatment.{Treatment}
 use Rattle.pb_choice.specs.declared.treatment.Treatment.TheVariants as treatment
 
@@ -38,6 +37,5 @@ pub record IsDerivable (t : Treatment) (m : BoundedSum) : Type 0 where
 
 -- the ids of a tree's clauses have room
 abbrev pub HasRoom : Treatment → BoundedSum → Type 0
-HasRoom treatment.Totalizer m = totalizer_size m < 5 * 2 ^ 60
 HasRoom treatment.Tree m = generalized_size m < 5 * 2 ^ 60
 HasRoom t m = Unit {0}

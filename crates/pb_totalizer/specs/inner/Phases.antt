@@ -7,13 +7,15 @@ use Rattle.pb_derive.specs.Reifications.{reification_steps}
 use Rattle.pb_tree.specs.Scheme.{fresh_of, own_count_of}
 use Rattle.pb_tree.specs.Tree.{Tree, empty, leaf, node}
 use Rattle.pb_totalizer.specs.Exact.{outputs_of}
-use Rattle.pb_totalizer.specs.TotalizerSteps.{before, node_meanings, part_size, node_steps, count_ops, give_way, nodes_in}
+use Rattle.pb_totalizer.specs.OutputSteps.{before, node_meanings}
+use Rattle.pb_totalizer.specs.TotalizerSteps.{node_steps, count_ops, give_way, nodes_in}
 use Rattle.pb_totalizer.specs.Totalizer.{totalizer}
 use Rattle.pb_totalizer.specs.declared.joint.Joint.{Joint}
 use Rattle.pb_totalizer.specs.declared.phase.Phase.{Phase}
 use Rattle.pb_totalizer.specs.declared.phase.Phase.TheVariants.{Meanings, Sums, Clauses}
 use Rattle.pb_totalizer.specs.inner.Joints.{joint_meanings, joint_sum, joint_steps, joint_ids}
-use Rattle.pb_totalizer.specs.laws.OutputFine.{ids_of}
+use Rattle.pb_totalizer.specs.laws.NodeForms.{lines_of}
+use Rattle.pb_totalizer.specs.laws.NodesFine.{ids_of}
 
 -- ---- of a node, where the last lines of its parts have ids
 
@@ -35,7 +37,7 @@ node_in Clauses bound l r first id left right next = node_steps bound l r first 
 abbrev pub node_ids_in : Phase → ℕ → Tree → Tree → ℕ
 node_ids_in Meanings bound l r = 2 * outputs_of bound (node l r)
 node_ids_in Sums bound l r = 1
-node_ids_in Clauses bound l r = part_size bound l + part_size bound r + own_count_of (totalizer bound) l r
+node_ids_in Clauses bound l r = lines_of bound l r + own_count_of (totalizer bound) l r
 
 -- ---- of a tree: of the left part, of the right part, and of the node
 

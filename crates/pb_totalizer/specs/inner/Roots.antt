@@ -7,7 +7,8 @@ use Rattle.pb_derive.specs.Claims.{Claim, claim_steps}
 use Rattle.pb_derive.specs.FollowedBy.{followed_by}
 use Rattle.pb_tree.specs.Scheme.{fresh_of}
 use Rattle.pb_tree.specs.Tree.{Tree, node}
-use Rattle.pb_totalizer.specs.TotalizerSteps.{before, nodes_in, sum_at, sum_lines, root_steps, give_way}
+use Rattle.pb_totalizer.specs.OutputSteps.{before}
+use Rattle.pb_totalizer.specs.TotalizerSteps.{nodes_in, sum_at, sum_lines, root_steps, give_way}
 use Rattle.pb_totalizer.specs.Totalizer.{totalizer}
 use Rattle.pb_totalizer.specs.declared.phase.Phase.TheVariants.{Clauses}
 use Rattle.pb_totalizer.specs.declared.root.Root.{Root}

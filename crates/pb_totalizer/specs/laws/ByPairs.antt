@@ -13,7 +13,7 @@ use Rattle.pb_tree.proofs.Lists.{Contains-range, Contains-range_cases}
 use Rattle.pb_tree.proofs.PairJustifications.{IsByPairs}
 use Rattle.pb_tree.proofs.TreeParts.{IsPart, AreFromParts}
 use Rattle.pb_totalizer.specs.Totalizer.{sum_clause, is_within, partners, totalizer}
-use Rattle.pb_totalizer.specs.TotalizerSteps.{totalizer_pairs}
+use Rattle.pb_totalizer.specs.OutputSteps.{totalizer_pairs}
 use Rattle.pb_totalizer.specs.laws.PairRows.{row_cases, rows_by_pairs}
 use Rattle.pb_totalizer.specs.laws.TotalizerLaws.{value_bounds, value_from, within_bounds}
 

@@ -160,6 +160,20 @@ pub record GivesWay (ts us : List Weighted) (s : Constraint) : Type 0 where
   pub law : (a : Assignment) → value a s.terms + value a ts ≡ weight ts + value a us
   pub degree : s.degree ≡ weight ts
 
+pub way_given : (front ts us rest : List Weighted) (k : ℕ) (s c d : Constraint) → GivesWay ts us s → AreApartTerms (front ++ (us ++ rest)) → AllPositive (front ++ (us ++ rest))
+    → IsFormOf (record { terms = front ++ (ts ++ rest); degree = k }) c → IsFormOf s d → IsFormOf (record { terms = front ++ (us ++ rest); degree = k }) (sum_of c d)
+way_given front ts us rest k s c d way apart positive hc hd =
+    form_sum (record { terms = front ++ (ts ++ rest); degree = k }) s (record { terms = front ++ (us ++ rest); degree = k }) c d (weight ts) hc hd apart positive
+    (λ a. omega (
+      arith,
+      way.law a,
+      value-append a front (ts ++ rest),
+      value-append a ts rest,
+      value-append a front (us ++ rest),
+      value-append a us rest,
+    ))
+    (omega (arith, way.degree))
+
 -- what a node's outputs say of its leaves does so
 pub counted_gives : (p last : ℕ) (ts us : List Weighted) → ((a : Assignment) → value a ts ≡ count a p (suc last)) → weight ts ≡ suc last → GivesWay ts us (counted_of p us last)
 counted_gives p last ts us counted size = record {

@@ -21,7 +21,7 @@ use Rattle.pb_tree.proofs.TreeRows.{leaves_of}
 use Rattle.pb_totalizer.specs.Exact.{exact_clauses, exact_fresh, exact_size, at_least}
 use Rattle.pb_totalizer.specs.ExactSteps.{exact_justifications, exact_steps}
 use Rattle.pb_totalizer.specs.Totalizer.{totalizer}
-use Rattle.pb_totalizer.specs.TotalizerSteps.{totalizer_pairs}
+use Rattle.pb_totalizer.specs.OutputSteps.{totalizer_pairs}
 use Rattle.pb_totalizer.specs.laws.ByPairs.{totalizer_by_pairs}
 use Rattle.pb_totalizer.specs.laws.ExactLaws.{exact_counts, exact_names, root_outputs}
 use Rattle.pb_totalizer.specs.laws.ExactJustifications.{exact_justifications_clauses, exact_justified, exact_whole}

@@ -34,7 +34,7 @@ use Rattle.pb_tree.proofs.TreeParts.{IsOver, over_left, over_right, leaf_listed}
 use Rattle.pb_totalizer.specs.Exact.{outputs_of, limits, limit_clause, limit_clauses, exact_own, exact_along, exact_clauses}
 use Rattle.pb_totalizer.specs.ExactSteps.{after_ids, after_weakened, limit_justification, limit_pairs, limit_justifications, own_justifications, least_justification, exact_justifications}
 use Rattle.pb_totalizer.specs.Totalizer.{totalizer}
-use Rattle.pb_totalizer.specs.TotalizerSteps.{totalizer_pairs}
+use Rattle.pb_totalizer.specs.OutputSteps.{totalizer_pairs}
 use Rattle.pb_totalizer.specs.laws.ByPairs.{totalizer_by_pairs}
 use Rattle.pb_totalizer.specs.laws.PairRows.{row_cases, rows_by_pairs}
 use Rattle.pb_totalizer.specs.laws.Limits.{limit_literal, limit_left, limit_right, limit_own}

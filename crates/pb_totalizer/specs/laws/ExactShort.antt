@@ -34,7 +34,7 @@ use Rattle.pb_tree.proofs.TreeShort.{length-vars, some_or_none, pairs_gone_few, 
 use Rattle.pb_totalizer.specs.Exact.{limits, outputs_of, limit_count_of, exact_fresh, exact_size}
 use Rattle.pb_totalizer.specs.ExactSteps.{after_ids, after_weakened, limit_justification, limit_pairs, limit_justifications, own_justifications, least_justification, exact_justifications, exact_steps}
 use Rattle.pb_totalizer.specs.Totalizer.{totalizer}
-use Rattle.pb_totalizer.specs.TotalizerSteps.{totalizer_pairs}
+use Rattle.pb_totalizer.specs.OutputSteps.{totalizer_pairs}
 use Rattle.pb_totalizer.specs.laws.ByPairs.{totalizer_by_pairs}
 use Rattle.pb_totalizer.specs.laws.Counting.{own_in_grid}
 use Rattle.pb_totalizer.specs.laws.ExactDerives.{unit_weighs}

@@ -29,7 +29,7 @@ use Rattle.pb_derive.proofs.UnaryRows.{Other, weighing}
 use Rattle.pb_derive.proofs.UnitTerms.{ones-all}
 use Rattle.pb_family.specs.Fresh.{positive_of}
 use Rattle.pb_tree.specs.Pairs.{unless_none}
-use Rattle.pb_totalizer.specs.TotalizerSteps.{pair_step}
+use Rattle.pb_totalizer.specs.OutputSteps.{pair_step}
 use Rattle.pb_totalizer.specs.laws.CountForms.{both-apart}
 use Rattle.pb_totalizer.specs.laws.OutputAdds.{Below, Named}
 use Rattle.pb_totalizer.specs.laws.OutputForms.{meaning_at, IsOthers}

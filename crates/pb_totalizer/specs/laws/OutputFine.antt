@@ -1,4 +1,4 @@
--- The lines for the clauses of nodes are within their limits, and short.
+-- The lines for the clauses of a node, by all outputs of its parts, are within their limits, and short.
 use Rattle.std.proofs.Common.{◌≡◌, ◌≤◌, ◌<◌, ◌+◌, ◌-◌, ◌*◌, ◌^◌, ◌++◌, inl, inr, ℕ, suc, Bool, true, false, cond, List, [], ◌∷◌, length, refl, ◌∙◌, arith, pos, length-append}
 use Rattle.std.specs.Prelude.{All, map, count_by}
 use Rattle.std.specs.List.{range_with_len}
@@ -16,17 +16,17 @@ use Rattle.pb_steps.specs.Steps.{takes_id}
 use Rattle.pb_derive.specs.Claims.{Claim, claim_steps}
 use Rattle.pb_derive.specs.Deletions.{deletion_steps}
 use Rattle.pb_derive.proofs.Fine.{AreFine, fine_within, fine_append, fine_claims}
-use Rattle.pb_derive.proofs.FineStages.{IsFine, fine_none, fine_step, fine_one, fine_lines, fine_deleted}
+use Rattle.pb_derive.proofs.FineStages.{IsFine, fine_step, fine_one, fine_lines, fine_deleted}
 use Rattle.pb_derive.proofs.IdRanges.{each_between}
 use Rattle.pb_tree.specs.Pairs.{Pair}
-use Rattle.pb_tree.specs.Scheme.{values, fresh_of, output, own_of, own_count_of, clauses_of, clause_count_of}
+use Rattle.pb_tree.specs.Scheme.{values, fresh_of, output, own_of, own_count_of}
 use Rattle.pb_tree.specs.Tree.{Tree, empty, leaf, node, IsLeafOf}
 use Rattle.pb_tree.proofs.Extending.{all_from_each}
 use Rattle.pb_tree.proofs.PairCounts.{count-append, count-cons}
 use Rattle.pb_totalizer.specs.Exact.{outputs_of}
 use Rattle.pb_totalizer.specs.OutputRows.{nothing_line, front_line, front_lines, tail_line, tail_lines, others_line, others_lines, row_lines, row_size}
 use Rattle.pb_totalizer.specs.Totalizer.{totalizer}
-use Rattle.pb_totalizer.specs.TotalizerSteps.{before, input_count, part_lines, part_size, part_others, pair_claim, node_claims, node_steps, nodes_steps, totalizer_pairs}
+use Rattle.pb_totalizer.specs.OutputSteps.{before, input_count, part_lines, part_size, part_others, pair_claim, node_claims, totalizer_pairs, narrow_node_steps}
 use Rattle.pb_totalizer.specs.laws.ByPairs.{pair_bounds}
 use Rattle.pb_totalizer.specs.laws.OutputCounts.{own-from, part-lines-count, part-size-few, part-size-some, claims-count}
 use Rattle.pb_totalizer.specs.laws.OutputParts.{IsFull, some_outputs}
@@ -59,10 +59,10 @@ module _ (most end p row m last next : ℕ) (h : RowFits most end p row m last n
   var : (v : ℕ) → p ≤ v → v < p + suc last → IsVariable v
   var v from to = (omega (arith, h.from, from), omega (arith, to, h.under))
 
-  nothing_fine : IsFine 31 (nothing_line p)
+  pub nothing_fine : IsFine 31 (nothing_line p)
   nothing_fine = ((var p (omega arith) (omega arith), (var p (omega arith) (omega arith), tt)), omega arith)
 
-  fronts_fine : AreFine most (31 + 150 * last) (front_lines p row m last next)
+  pub fronts_fine : AreFine most (31 + 150 * last) (front_lines p row m last next)
   fronts_fine =
       fine_step most 31 (150 * last) (nothing_line p) (map (front_line row m next) (range_with_len 0 last)) nothing_fine (omega (arith, h.room))
       (fine_lines most 150 (front_line row m next) last (omega (arith, h.room)) (λ j within.
@@ -80,7 +80,7 @@ module _ (most end p row m last next : ℕ) (h : RowFits most end p row m last n
         omega (arith, size),
       )))
 
-  tails_fine : AreFine most (31 + 39 * suc last) (tail_lines p last (next + suc last))
+  pub tails_fine : AreFine most (31 + 39 * suc last) (tail_lines p last (next + suc last))
   tails_fine =
       let f = tail_line p last (next + suc last) in
       fine_step most 31 (39 * suc last) (nothing_line p) (map f (range_with_len 0 (suc last))) nothing_fine (omega (arith, h.room))
@@ -174,16 +174,10 @@ part_fine most end n bound (node l r) first id next h some le =
 
 -- ---- a node
 
--- how many ids the clauses of a tree take, with the lines about parts
-unfoldable pub ids_of : ℕ → Tree → ℕ
-ids_of bound empty = 0
-ids_of bound (leaf t) = 0
-ids_of bound (node l r) = ids_of bound l + ids_of bound r + (part_size bound l + part_size bound r + own_count_of (totalizer bound) l r)
-
-own-count : (bound : ℕ) (l r : Tree) (first : ℕ) → length (own_of (totalizer bound) l r first) ≡ own_count_of (totalizer bound) l r
+pub own-count : (bound : ℕ) (l r : Tree) (first : ℕ) → length (own_of (totalizer bound) l r first) ≡ own_count_of (totalizer bound) l r
 own-count bound l r first = (totalizer_lawful bound).counted l r (output (totalizer bound) l first) (output (totalizer bound) r (first + fresh_of (totalizer bound) l)) (output (totalizer bound) (node l r) first)
 
-at_most_one : (b : Bool) → cond b 1 0 ≤ 1
+pub at_most_one : (b : Bool) → cond b 1 0 ≤ 1
 at_most_one true = omega arith
 at_most_one false = omega arith
 
@@ -192,8 +186,8 @@ claims-ids next [] = omega arith
 claims-ids next (c ∷ cs) =
     omega (arith, count-cons takes_id c.step (Out next ∷ claim_steps (next + 1) cs), count-cons takes_id (Out next) (claim_steps (next + 1) cs), at_most_one (takes_id c.step), claims-ids (next + 1) cs)
 
-pub node-ids : (bound : ℕ) (l r : Tree) (first id next : ℕ) → count_by takes_id (node_steps bound l r first id next) ≤ part_size bound l + part_size bound r + own_count_of (totalizer bound) l r
-node-ids bound l r first id next =
+pub narrow-ids : (bound : ℕ) (l r : Tree) (first id next : ℕ) → count_by takes_id (narrow_node_steps bound l r first id next) ≤ part_size bound l + part_size bound r + own_count_of (totalizer bound) l r
+narrow-ids bound l r first id next =
     let middle : ℕ = first + fresh_of (totalizer bound) l in
     let right_id : ℕ = id + 2 * fresh_of (totalizer bound) l in
     let size : ℕ = part_size bound l + part_size bound r in
@@ -213,34 +207,6 @@ node-ids bound l r first id next =
       own-count bound l r first,
       count-cons takes_id (Del (range_with_len next size)) [],
     )
-
-pub nodes-ids : (bound : ℕ) (t : Tree) (first id next : ℕ) → count_by takes_id (nodes_steps bound t first id next) ≤ ids_of bound t
-unfolding ids_of
-nodes-ids bound empty first id next = omega arith
-nodes-ids bound (leaf t) first id next = omega arith
-nodes-ids bound (node l r) first id next =
-    let middle : ℕ = first + fresh_of (totalizer bound) l in
-    let right_id : ℕ = id + 2 * fresh_of (totalizer bound) l in
-    let lefts = nodes_steps bound l first id next in
-    let next1 : ℕ = next + count_by takes_id lefts in
-    let rights = nodes_steps bound r middle right_id next1 in
-    let next2 : ℕ = next1 + count_by takes_id rights in
-    let own = node_steps bound l r first id next2 in
-    omega (
-      arith,
-      count-append takes_id lefts (rights ++ own),
-      count-append takes_id rights own,
-      nodes-ids bound l first id next,
-      nodes-ids bound r middle right_id next1,
-      node-ids bound l r first id next2,
-    )
-
--- and that is not many more than clauses
-pub ids-few : (bound : ℕ) (t : Tree) → IsFull t → ids_of bound t + part_size bound t ≤ clause_count_of (totalizer bound) t + 4 * fresh_of (totalizer bound) t + 2 * leaf_count t
-unfolding ids_of
-ids-few bound empty full = absurd full
-ids-few bound (leaf t) full = omega arith
-ids-few bound (node l r) full = omega (arith, ids-few bound l full.0, ids-few bound r full.1, part-size-few bound (node l r) full, some_outputs bound (node l r) full)
 
 module _ (most end n bound : ℕ) (l r : Tree) (first id next : ℕ) (h : TreeFits most end n bound (node l r) first id) (some : 1 ≤ next) (le : next + (part_size bound l + part_size bound r + own_count_of (totalizer bound) l r) ≤ end) where
   abbrev middle : ℕ
@@ -285,8 +251,8 @@ module _ (most end n bound : ℕ) (l r : Tree) (first id next : ℕ) (h : TreeFi
       let bounds = pair_bounds (bound + 1) (values (totalizer bound) l) (values (totalizer bound) r) u listed in
       claim_fine u bounds.0 bounds.1 bounds.2 bounds.3))
 
-  pub node_fine : AreFine most (1024 * length (own_of (totalizer bound) l r first)) (node_steps bound l r first id next)
-  node_fine =
+  pub narrow_fine : AreFine most (1024 * length (own_of (totalizer bound) l r first)) (narrow_node_steps bound l r first id next)
+  narrow_fine =
       let lefts = part_lines bound l first id next in
       let rights = part_lines bound r middle right_id (next + part_size bound l) in
       let a : ℕ = outputs_of bound l in
@@ -303,36 +269,7 @@ module _ (most end n bound : ℕ) (l r : Tree) (first id next : ℕ) (h : TreeFi
       let right_leaves : b ≤ leaf_count r = omega (arith, values_count bound r) in
       let gone = fine_deleted most (range_with_len next size) (omega (arith, number, part-size-some bound l h.full.0)) (omega (arith, number, left_few, right_few, left_leaves, right_leaves, h.leaves, h.room))
       (each_between IsId next size (λ i from to. (omega (arith, some, from), omega (arith, to, le, h.high)))) in
-      fine_within most most (300 * a + 300 * b + ((109 + 24) * c + (4 + 20 * length (range_with_len next size)))) (1024 * length (own_of (totalizer bound) l r first)) (node_steps bound l r first id next) (omega arith)
+      fine_within most most (300 * a + 300 * b + ((109 + 24) * c + (4 + 20 * length (range_with_len next size)))) (1024 * length (own_of (totalizer bound) l r first)) (narrow_node_steps bound l r first id next) (omega arith)
       (omega (arith, number, left_few, right_few, own-from bound l r first, claims-count bound l r first id next, some_outputs bound l h.full.0, some_outputs bound r h.full.1))
       (fine_append most (300 * a + 300 * b) ((109 + 24) * c + (4 + 20 * length (range_with_len next size))) (lefts ++ rights) (claim_steps (next + size) claims ++ deletion_steps size next 1) both
       (fine_append most ((109 + 24) * c) (4 + 20 * length (range_with_len next size)) (claim_steps (next + size) claims) (deletion_steps size next 1) clauses gone))
-
--- ---- all nodes
-
-pub nodes_fine : (most end n bound : ℕ) (t : Tree) (first id next : ℕ) → TreeFits most end n bound t first id → 1 ≤ next → next + ids_of bound t ≤ end → AreFine most (1024 * length (clauses_of (totalizer bound) t first)) (nodes_steps bound t first id next)
-unfolding ids_of
-nodes_fine most end n bound empty first id next h some le = absurd h.full
-nodes_fine most end n bound (leaf t) first id next h some le = fine_none most
-nodes_fine most end n bound (node l r) first id next h some le =
-    let middle : ℕ = first + fresh_of (totalizer bound) l in
-    let right_id : ℕ = id + 2 * fresh_of (totalizer bound) l in
-    let lefts = nodes_steps bound l first id next in
-    let next1 : ℕ = next + count_by takes_id lefts in
-    let rights = nodes_steps bound r middle right_id next1 in
-    let next2 : ℕ = next1 + count_by takes_id rights in
-    let own = node_steps bound l r first id next2 in
-    let cl : ℕ = length (clauses_of (totalizer bound) l first) in
-    let cr : ℕ = length (clauses_of (totalizer bound) r middle) in
-    let co : ℕ = length (own_of (totalizer bound) l r first) in
-    let one = nodes-ids bound l first id next in
-    let two = nodes-ids bound r middle right_id next1 in
-    fine_within most most (1024 * cl + (1024 * cr + 1024 * co)) (1024 * length (clauses_of (totalizer bound) (node l r) first)) (lefts ++ (rights ++ own)) (omega arith)
-    (omega (
-      arith,
-      length-append (clauses_of (totalizer bound) l first) (clauses_of (totalizer bound) r middle ++ own_of (totalizer bound) l r first),
-      length-append (clauses_of (totalizer bound) r middle) (own_of (totalizer bound) l r first),
-    ))
-    (fine_append most (1024 * cl) (1024 * cr + 1024 * co) lefts (rights ++ own) (nodes_fine most end n bound l first id next (left_fits most end n bound l r first id h) some (omega (arith, le)))
-    (fine_append most (1024 * cr) (1024 * co) rights own (nodes_fine most end n bound r middle right_id next1 (right_fits most end n bound l r first id h) (omega (arith, some)) (omega (arith, le, one)))
-    (node_fine most end n bound l r first id next2 h (omega (arith, some)) (omega (arith, le, one, two)))))

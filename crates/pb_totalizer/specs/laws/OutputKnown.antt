@@ -12,7 +12,7 @@ use Rattle.pb_tree.specs.Tree.{Tree, empty, leaf, node}
 use Rattle.pb_tree.specs.Scheme.{fresh_of}
 use Rattle.pb_tree.specs.TreeSteps.{reifications_from}
 use Rattle.pb_totalizer.specs.Exact.{outputs_of}
-use Rattle.pb_totalizer.specs.TotalizerSteps.{inputs, input_count, before, node_meanings, meanings}
+use Rattle.pb_totalizer.specs.OutputSteps.{inputs, input_count, before, node_meanings, meanings}
 use Rattle.pb_totalizer.specs.Totalizer.{totalizer}
 use Rattle.pb_totalizer.specs.laws.OutputAdds.{IsReified}
 use Rattle.pb_totalizer.specs.laws.OutputForms.{meaning_at}

@@ -16,7 +16,7 @@ use Rattle.pb_tree.specs.Tree.{Tree, empty, leaf, node, IsLeafOf}
 use Rattle.pb_tree.specs.TreeSteps.{leaves}
 use Rattle.pb_tree.proofs.Extending.{IsNamed, all_from_each}
 use Rattle.pb_tree.proofs.TreeParts.{IsApart, IsOver, leaf_listed}
-use Rattle.pb_totalizer.specs.TotalizerSteps.{outputs}
+use Rattle.pb_totalizer.specs.OutputSteps.{outputs}
 use Rattle.pb_totalizer.specs.Totalizer.{totalizer}
 use Rattle.pb_totalizer.specs.laws.CountForms.{both-apart}
 use Rattle.pb_totalizer.specs.laws.OutputParts.{outputs-apart, outputs-named, AreLeavesBelow}

@@ -1,4 +1,4 @@
--- The clauses of all nodes of a tree are put out, and nothing else is left.
+-- The clauses of a node are put out, by all outputs of its parts, and nothing else is left.
 use Rattle.std.proofs.Common.{◌≡◌, ◌≢◌, ◌≤◌, ◌<◌, ◌+◌, ◌-◌, ◌*◌, ◌^◌, ◌++◌, ℕ, List, [], ◌∷◌, length, refl, ap, sym, ◌∙◌, subst, arith}
 use Rattle.std.specs.Prelude.{All, Contains, map, min}
 use Rattle.std.proofs.lemmas.List.Elements.{All-map}
@@ -7,26 +7,24 @@ use Rattle.pb_base.proofs.Members.{Contains-map}
 use Rattle.pb_steps.specs.declared.step.Step.{Step}
 use Rattle.pb_steps.specs.Database.{Database}
 use Rattle.pb_derive.specs.Claims.{Claim, claim_steps}
-use Rattle.pb_derive.specs.FollowedBy.{followed_by}
 use Rattle.pb_derive.specs.Later.{IsNumbered, IsLater, Knows}
 use Rattle.pb_derive.specs.inner.Ran.{StepGives, IsClaim, RanSwept}
-use Rattle.pb_derive.proofs.FollowedBy.{followed_swept}
 use Rattle.pb_derive.proofs.Justified.{ReificationsKnown}
 use Rattle.pb_derive.proofs.Laters.{known_below, later_then}
 use Rattle.pb_derive.proofs.Lines.{Added, added_then}
-use Rattle.pb_derive.proofs.Running.{swept_none, claims_ran}
+use Rattle.pb_derive.proofs.Running.{claims_ran}
 use Rattle.pb_derive.proofs.Scoped.{scoped}
 use Rattle.pb_family.specs.Fresh.{positive_of}
 use Rattle.pb_tree.specs.Pairs.{Pair, unless_none}
-use Rattle.pb_tree.specs.Scheme.{values, fresh_of, output, own_of, clauses_of}
-use Rattle.pb_tree.specs.Tree.{Tree, empty, leaf, node}
+use Rattle.pb_tree.specs.Scheme.{values, fresh_of, output, own_of}
+use Rattle.pb_tree.specs.Tree.{Tree, node}
 use Rattle.pb_tree.proofs.Extending.{all_from_each}
 use Rattle.pb_tree.proofs.PairLists.{map-map}
 use Rattle.pb_tree.proofs.PairJustifications.{IsPositive}
 use Rattle.pb_tree.proofs.TreeParts.{IsOver, over_left, over_right}
 use Rattle.pb_totalizer.specs.Exact.{outputs_of}
 use Rattle.pb_totalizer.specs.Totalizer.{totalizer}
-use Rattle.pb_totalizer.specs.TotalizerSteps.{outputs, inputs, input_count, before, meanings, part_lines, part_size, part_others, pair_claim, node_claims, node_steps, nodes_steps, totalizer_pairs}
+use Rattle.pb_totalizer.specs.OutputSteps.{outputs, inputs, input_count, before, meanings, part_lines, part_size, part_others, pair_claim, node_claims, totalizer_pairs, narrow_node_steps}
 use Rattle.pb_totalizer.specs.laws.ByPairs.{pair_bounds, totalizer_by_pairs}
 use Rattle.pb_totalizer.specs.laws.OutputAdds.{Below, IsReified, reified_later}
 use Rattle.pb_totalizer.specs.laws.OutputClaims.{MayPair, clause-named, pair_gives}
@@ -245,8 +243,8 @@ module _ (db : Database) (top bound : ℕ) (l r : Tree) (low first id : ℕ) (h 
       map-map clause_in (pair_claim bound l r first id db.next) pairs
       ∙ sym ((totalizer_by_pairs bound).merged l r some_l some_r f g (output (totalizer bound) (node l r) first))
 
-  pub node_swept : Cleared (Below top) db (node_steps bound l r first id db.next) (own_of (totalizer bound) l r first)
-  node_swept =
+  pub narrow_swept : Cleared (Below top) db (narrow_node_steps bound l r first id db.next) (own_of (totalizer bound) l r first)
+  narrow_swept =
       let claims = node_claims bound l r first id db.next in
       let ran = claims_ran P mid2 claims all_later.numbered claims_hold in
       let clauses = map clause_in claims in
@@ -255,24 +253,3 @@ module _ (db : Database) (top bound : ℕ) (l r : Tree) (low first id : ℕ) (h 
       (subst (λ (n : ℕ). RanSwept P mid2 (claim_steps n claims) clauses (length claims)) at_2 ran) in
       let whole = scoped P db lines (claim_steps (db.next + size) claims) (own_of (totalizer bound) l r first) size (length claims) size 1 both_told.ran h.numbered both_told.adding second (omega arith) in
       record { ids = size + length claims; swept = whole.all }
-
--- ---- along the tree
-
-pub nodes_swept : (db : Database) (top bound : ℕ) (t : Tree) (low first id : ℕ) → MayDerive db top bound t low first id → Cleared (Below top) db (nodes_steps bound t first id db.next) (clauses_of (totalizer bound) t first)
-nodes_swept db top bound empty low first id h = record { ids = 0; swept = swept_none (Below top) db h.numbered }
-nodes_swept db top bound (leaf t) low first id h = record { ids = 0; swept = swept_none (Below top) db h.numbered }
-nodes_swept db top bound (node l r) low first id h =
-    let P : ℕ → Type 0 = Below top in
-    let middle : ℕ = first + fresh_of (totalizer bound) l in
-    let right_id : ℕ = id + 2 * fresh_of (totalizer bound) l in
-    let rights = clauses_of (totalizer bound) r middle in
-    let owns = own_of (totalizer bound) l r first in
-    let one = nodes_swept db top bound l low first id (left_may db top bound l r low first id h) in
-    let mid1 : Database = one.swept.ran.end in
-    let later = one.swept.ran.later in
-    let two = nodes_swept mid1 top bound r low middle right_id (derive_later db mid1 top bound r low middle right_id later (right_may db top bound l r low first id h)) in
-    let mid2 : Database = two.swept.ran.end in
-    let three = node_swept mid2 top bound l r low first id (derive_later db mid2 top bound (node l r) low first id (later_then P db mid1 mid2 later two.swept.ran.later) h) in
-    let rest = followed_swept P mid1 (nodes_steps bound r middle right_id) (node_steps bound l r first id) rights owns two.ids three.ids two.swept three.swept in
-    let whole = followed_swept P db (nodes_steps bound l first id) (followed_by (nodes_steps bound r middle right_id) (node_steps bound l r first id)) (clauses_of (totalizer bound) l first) (rights ++ owns) one.ids (two.ids + three.ids) one.swept rest in
-    record { ids = one.ids + (two.ids + three.ids); swept = whole }

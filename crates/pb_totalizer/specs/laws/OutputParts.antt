@@ -24,7 +24,7 @@ use Rattle.pb_tree.proofs.Extending.{IsNamed, output_named, all_from_each}
 use Rattle.pb_tree.proofs.Splitting.{halves}
 use Rattle.pb_tree.proofs.TreeParts.{IsOver}
 use Rattle.pb_totalizer.specs.Exact.{outputs_of}
-use Rattle.pb_totalizer.specs.TotalizerSteps.{outputs, inputs, input_count, before}
+use Rattle.pb_totalizer.specs.OutputSteps.{outputs, inputs, input_count, before}
 use Rattle.pb_totalizer.specs.Totalizer.{totalizer}
 use Rattle.pb_totalizer.specs.laws.CountForms.{both-apart}
 use Rattle.pb_totalizer.specs.laws.OutputForms.{Some, count-first}

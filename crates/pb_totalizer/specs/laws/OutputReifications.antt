@@ -20,7 +20,7 @@ use Rattle.pb_tree.specs.Tree.{Tree, empty, leaf, node}
 use Rattle.pb_tree.specs.TreeSteps.{reifications_from}
 use Rattle.pb_tree.proofs.TreeParts.{IsOver, over_left, over_right}
 use Rattle.pb_totalizer.specs.Exact.{outputs_of}
-use Rattle.pb_totalizer.specs.TotalizerSteps.{inputs, before, node_meanings, meanings}
+use Rattle.pb_totalizer.specs.OutputSteps.{inputs, before, node_meanings, meanings}
 use Rattle.pb_totalizer.specs.Totalizer.{totalizer}
 use Rattle.pb_totalizer.specs.laws.OutputKnown.{length-meanings}
 use Rattle.pb_totalizer.specs.laws.OutputParts.{inputs-weight, inputs-apart, inputs-positive, inputs-low}

@@ -28,7 +28,8 @@ use Rattle.pb_derive.proofs.Stacked.{after_step, push_step}
 use Rattle.pb_derive.proofs.UnaryRows.{missed, places_of, places-weight, count}
 use Rattle.pb_tree.specs.Tree.{Tree, empty, leaf, node}
 use Rattle.pb_totalizer.specs.Exact.{outputs_of}
-use Rattle.pb_totalizer.specs.TotalizerSteps.{outputs, before, count_ops, give_way}
+use Rattle.pb_totalizer.specs.OutputSteps.{outputs, before}
+use Rattle.pb_totalizer.specs.TotalizerSteps.{count_ops, give_way}
 use Rattle.pb_totalizer.specs.laws.CountForms.{counted_of, counted_form, GivesWay, counted_gives}
 use Rattle.pb_totalizer.specs.laws.OutputAdds.{IsReified, times-small}
 use Rattle.pb_totalizer.specs.laws.OutputForms.{meaning_at}

@@ -15,7 +15,7 @@ use Rattle.pb_family.specs.Fresh.{positive_of}
 use Rattle.pb_tree.specs.Tree.{Tree, empty, leaf, node}
 use Rattle.pb_tree.specs.Scheme.{fresh_of, output}
 use Rattle.pb_totalizer.specs.Exact.{outputs_of}
-use Rattle.pb_totalizer.specs.TotalizerSteps.{outputs, inputs, input_count, before, part_lines, part_size, part_others}
+use Rattle.pb_totalizer.specs.OutputSteps.{outputs, inputs, input_count, before, part_lines, part_size, part_others}
 use Rattle.pb_totalizer.specs.Totalizer.{totalizer}
 use Rattle.pb_totalizer.specs.laws.OutputAdds.{Below, IsReified, axiom_adds, nothing_adds, others-size}
 use Rattle.pb_totalizer.specs.laws.OutputForms.{others_of, IsOthers, row_others, leaf_others, leaf-is-others}

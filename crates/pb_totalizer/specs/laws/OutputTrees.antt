@@ -34,7 +34,8 @@ use Rattle.pb_family.specs.Fresh.{positive_of}
 use Rattle.pb_tree.specs.Scheme.{fresh_of}
 use Rattle.pb_tree.specs.Tree.{Tree, empty, leaf, node}
 use Rattle.pb_totalizer.specs.Exact.{outputs_of}
-use Rattle.pb_totalizer.specs.TotalizerSteps.{outputs, inputs, input_count, before, count_ops, give_way, nodes_in, sum_at, sum_lines}
+use Rattle.pb_totalizer.specs.OutputSteps.{outputs, inputs, input_count, before}
+use Rattle.pb_totalizer.specs.TotalizerSteps.{count_ops, give_way, nodes_in, sum_at, sum_lines}
 use Rattle.pb_totalizer.specs.Totalizer.{totalizer}
 use Rattle.pb_totalizer.specs.laws.CountForms.{counted_of, row-low-apart, root_form}
 use Rattle.pb_totalizer.specs.laws.OutputAdds.{Below, Named, IsReified}

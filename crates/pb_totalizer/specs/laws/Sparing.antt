@@ -13,7 +13,7 @@ use Rattle.pb_tree.proofs.Lists.{Contains-range_cases}
 use Rattle.pb_tree.proofs.PairCounts.{is_none, is_some, count-cons, count-append, count-map, count_none, count_rows}
 use Rattle.pb_tree.proofs.TreeShort.{IsSparing}
 use Rattle.pb_totalizer.specs.Totalizer.{is_within, partners, totalizer}
-use Rattle.pb_totalizer.specs.TotalizerSteps.{totalizer_pairs}
+use Rattle.pb_totalizer.specs.OutputSteps.{totalizer_pairs}
 use Rattle.pb_totalizer.specs.laws.TotalizerLaws.{values_length}
 
 -- those from 1 on

@@ -38,14 +38,16 @@ use Rattle.pb_tree.proofs.TreeParts.{IsOver}
 use Rattle.pb_tree.proofs.TreeRows.{leaves_of}
 use Rattle.pb_totalizer.specs.Exact.{outputs_of}
 use Rattle.pb_totalizer.specs.Totalizer.{totalizer, totalizer_clauses, totalizer_fresh, totalizer_size}
-use Rattle.pb_totalizer.specs.TotalizerSteps.{before, meanings, nodes_steps, nodes_in, sum_at, sum_lines, root_claim, root_steps, totalizer_steps_of, totalizer_steps, totalizer_pairs}
+use Rattle.pb_totalizer.specs.OutputSteps.{before, meanings, totalizer_pairs}
+use Rattle.pb_totalizer.specs.TotalizerSteps.{nodes_steps, nodes_in, sum_at, sum_lines, root_claim, root_steps, totalizer_steps_of, totalizer_steps}
 use Rattle.pb_totalizer.specs.laws.ByPairs.{totalizer_by_pairs}
 use Rattle.pb_totalizer.specs.laws.OutputAdds.{Below}
-use Rattle.pb_totalizer.specs.laws.OutputCounts.{whole-few}
+use Rattle.pb_totalizer.specs.laws.WholeCounts.{whole-few}
 use Rattle.pb_totalizer.specs.laws.OutputKnown.{length-meanings}
 use Rattle.pb_totalizer.specs.laws.OutputLeaves.{leaf_terms}
 use Rattle.pb_totalizer.specs.laws.OutputReifications.{IsRising, rising_reifications, rising_known, meanings-row, meanings-rising}
-use Rattle.pb_totalizer.specs.laws.OutputNodes.{MayDerive, derive_later, left_may, right_may, Cleared, nodes_swept}
+use Rattle.pb_totalizer.specs.laws.OutputNodes.{MayDerive, derive_later, left_may, right_may, Cleared}
+use Rattle.pb_totalizer.specs.laws.NodesSwept.{nodes_swept}
 use Rattle.pb_totalizer.specs.laws.OutputParts.{IsFull, full_tree, ones-sum}
 use Rattle.pb_totalizer.specs.laws.OutputTrees.{summed_later, below_next, root_gives, leaf_weight-left, SumsRan, sums_ran}
 use Rattle.pb_totalizer.specs.laws.TotalizerLaws.{totalizer_suits, totalizer_counts, leaf_count, values_count}

@@ -28,18 +28,22 @@ use Rattle.pb_derive.proofs.Sayable.{IsSlimTerm, IsSlimReification}
 use Rattle.pb_derive.proofs.UnitTerms.{ones-all}
 use Rattle.pb_family.specs.Derivations.{AreOriginal, MayStart}
 use Rattle.pb_family.proofs.UnitSums.{unit_weight}
-use Rattle.pb_tree.specs.Scheme.{values, fresh_of, output, clauses_of}
+use Rattle.pb_tree.specs.Scheme.{values, fresh_of, output, own_count_of, clauses_of}
 use Rattle.pb_tree.specs.Tree.{Tree, empty, leaf, node, tree_of, IsLeafOf}
 use Rattle.pb_tree.specs.TreeSteps.{reifications_from}
 use Rattle.pb_tree.proofs.Extending.{IsNamed}
 use Rattle.pb_tree.proofs.Splitting.{leaf_listed, split_sum}
 use Rattle.pb_totalizer.specs.Exact.{outputs_of}
-use Rattle.pb_totalizer.specs.TotalizerSteps.{outputs, inputs, before, node_meanings, meanings, nodes_steps, count_ops, give_way, nodes_in, sum_at, sum_lines, root_claim, root_steps, totalizer_steps_of, totalizer_steps}
+use Rattle.pb_totalizer.specs.OutputSteps.{outputs, inputs, before, node_meanings, meanings}
+use Rattle.pb_totalizer.specs.TotalizerSteps.{nodes_steps, count_ops, give_way, nodes_in, sum_at, sum_lines, root_claim, root_steps, totalizer_steps_of, totalizer_steps}
 use Rattle.pb_totalizer.specs.Totalizer.{totalizer, totalizer_fresh, totalizer_size}
-use Rattle.pb_totalizer.specs.laws.OutputCounts.{nodes-within}
-use Rattle.pb_totalizer.specs.laws.OutputFine.{factor, TreeFits, left_fits, right_fits, ids_of, nodes-ids, ids-few, nodes_fine}
+use Rattle.pb_totalizer.specs.laws.WholeCounts.{nodes-within}
+use Rattle.pb_totalizer.specs.laws.OutputFine.{factor, TreeFits, left_fits, right_fits}
+use Rattle.pb_totalizer.specs.laws.Counting.{own_in_grid}
+use Rattle.pb_totalizer.specs.laws.NodesFine.{ids_of, nodes-ids, ids-few, nodes_fine}
 use Rattle.pb_totalizer.specs.laws.OutputKnown.{length-meanings}
 use Rattle.pb_totalizer.specs.laws.OutputParts.{IsFull, full_tree, some_outputs, outputs-named, inputs-weight, ones-sum}
+use Rattle.pb_totalizer.specs.laws.Shares.{few_shared}
 use Rattle.pb_totalizer.specs.laws.TotalizerLaws.{leaf_count, node_length, values_length, values_count, totalizer_counts}
 
 -- ---- the sums
@@ -266,7 +270,7 @@ whole_fine most end n bound empty first own next h terms given before_next two w
 whole_fine most end n bound (leaf t) first own next h terms given before_next two wide fits = absurd (omega (arith, wide, two))
 whole_fine most end n bound (node l r) first own next h terms given before_next two wide fits = tree_fine most end n bound l r first own next h terms given before_next wide fits
 
-module _ (m : BoundedSum) (units : all_weigh 1 m.terms ≡ true) (proper : IsProper m) (few : length m.terms < 2 ^ 31) (modest : totalizer_size m < 5 * 2 ^ 60) (first id next : ℕ)
+module _ (m : BoundedSum) (units : all_weigh 1 m.terms ≡ true) (proper : IsProper m) (few : length m.terms < 2 ^ 31) (first id next : ℕ)
     (original : AreOriginal first m.terms) (start : MayStart first (totalizer_fresh m) id next) where
   abbrev n : ℕ
   n = length m.terms
@@ -297,7 +301,7 @@ module _ (m : BoundedSum) (units : all_weigh 1 m.terms ≡ true) (proper : IsPro
     vars = λ u h. let own = All-contains (λ (t : Weighted). (1 ≤ t.lit.var) × (t.lit.var < first)) m.terms u original (leaf_listed m.terms u h) in (own.0, omega (arith, own.1, start.fits));
     id_from = omega (arith, start.given, start.known);
     id_to = omega arith;
-    high = omega (arith, start.few, start.fits, ids-few m.bound s full, leaves, few, modest);
+    high = omega (arith, start.few, start.fits, ids-few m.bound s full, leaves, few, few_shared m.bound (own_count_of (totalizer m.bound)) (own_in_grid m.bound) s proper.bound_from (omega (arith, start.fits)));
   }
 
   fine : (most : ℕ) → 104 * n + 200 ≤ most → AreFine most (whole_size n (totalizer_fresh m) (length (clauses_of (totalizer m.bound) s first))) (totalizer_steps m first id next)
@@ -321,6 +325,3 @@ module _ (m : BoundedSum) (units : all_weigh 1 m.terms ≡ true) (proper : IsPro
 
 pub few_terms : (ts : List Term) → length ts < 2 ^ 31 → length (weights ts) < 2 ^ 31
 few_terms ts few = omega (arith, length-map ts weighted, few)
-
-pub size_fits : {clauses size : ℕ} → clauses ≡ size → clauses < 5 * 2 ^ 60 → size < 5 * 2 ^ 60
-size_fits is small = omega (arith, is, small)

@@ -169,3 +169,22 @@ fn drawn_sums_are_derived(rt: HostRuntime) {
         "at {plain:?}, with weights at {weighted:?}"
     );
 }
+
+// True if that is so of at most 40 of 70 by a totalizer, whose root goes by blocks of its parts' outputs.
+fn is_large_derived(alloc: Global) -> Option<bool> {
+    let mut state: u32 = 1;
+    let opb = draw_count(alloc, &mut state, 70, 30)?;
+    let sum = Sum {
+        opb: opb.as_str(),
+        first: 71,
+        loaded: 1,
+        budget: 1000,
+    };
+    is_derived(alloc, &mut state, Kind::Totalizer, sum)
+}
+
+#[test]
+fn a_large_totalizer_is_derived(rt: HostRuntime) {
+    let derived = is_large_derived(rt.alloc());
+    assert!(rt; derived == Some(true), "{derived:?}");
+}

@@ -1,5 +1,6 @@
-use Rattle.std.proofs.Common.{◌+◌, arith}
-use Rattle.pb_totalizer.specs.inner.Joints.{joint_row}
+use Rattle.std.proofs.Common.{◌+◌, refl, arith}
+use Rattle.pb_totalizer.specs.Totalizer.{partners}
+use Rattle.pb_totalizer.specs.inner.Joints.{joint_claim, joint_row}
 use Rattle.pb_totalizer.specs.inner.Sides.{side_count}
 use Rattle.pb_totalizer.proofs.ClaimRows.{row_takes, claim_rowing_from, claim_rowing_next, claim_rowing_fault, claim_rowing_ends, claim_rowing_room}
 use Rattle.pb_totalizer.proofs.joint_clauses.derive_claims.Goals as goal
@@ -28,7 +29,7 @@ pub loop-i-preserved : goal.loop-i-preserved
 loop-i-preserved g c =
     let of = c.args.of.now in
     claim_rowing_next (joint_row of.node of.lefts of.rights) (side_count of.node.left + 1) c.loop-i.i (g.T.StepSink.state c.args.sink.now) (g.T.StepSink.state c.loop-i.sink) (omega arith) c.loop-i.invariant
-    (g.T.StepSink.state c.derive_claim_row.new.sink) (row_takes of.node of.lefts of.rights c.loop-i.i) c.in_ok-derive_claim_row.ensures
+    (g.T.StepSink.state c.derive_claim_row.new.sink) (row_takes (joint_claim of.node of.lefts of.rights c.loop-i.i) (λ j. refl) (partners of.node.cap (side_count of.node.right) c.loop-i.i)) c.in_ok-derive_claim_row.ensures
 
 pub returns : goal.returns
 returns g c =
