@@ -56,7 +56,7 @@ along_short bound (node l r) first =
     joined 4 (exact_along bound l first) (rights ++ exact_own bound l r first) (along_short bound l first)
     (joined 4 rights (exact_own bound l r first) (along_short bound r after) (own_short bound l r first))
 
-exact_short : (m : BoundedSum) (first : ℕ) → HaveFewLiterals 4 (exact_clauses m first)
+pub exact_short : (m : BoundedSum) (first : ℕ) → HaveFewLiterals 4 (exact_clauses m first)
 exact_short m first =
     let t = tree_of m.terms in
     let o = output (totalizer m.bound) t first in

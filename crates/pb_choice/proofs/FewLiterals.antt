@@ -89,11 +89,11 @@ two n ks ls h k = first_is n ks (ls ∷ []) h (one n ls k)
 
 -- ---- at most one
 
-pairs_short : (ms : List Lit) → HaveFewLiterals 4 (pairwise_clauses ms)
+pub pairs_short : (ms : List Lit) → HaveFewLiterals 4 (pairwise_clauses ms)
 pairs_short [] = none 4
 pairs_short (m ∷ ms) = joined 4 (map (λ k. negated m ∷ negated k ∷ []) ms) (pairwise_clauses ms) (mapped 4 (λ k. negated m ∷ negated k ∷ []) (λ k. omega arith) ms) (pairs_short ms)
 
-ladder_short : (ms : List Lit) (first : ℕ) → HaveFewLiterals 4 (ladder_clauses ms first)
+pub ladder_short : (ms : List Lit) (first : ℕ) → HaveFewLiterals 4 (ladder_clauses ms first)
 ladder_short ms first =
     joined 4 (links first (length ms)) (nones_after ms first ++ somes_after ms first)
     (mapped 4 (link first) (λ k. omega arith) (range_with_len 0 (length ms - 2)))
@@ -101,7 +101,7 @@ ladder_short ms first =
     (mapped 4 (none_after ms first) (λ k. omega arith) (range_with_len 0 (length ms - 1)))
     (mapped 4 (some_after ms first) (λ k. omega arith) (range_with_len 0 (length ms - 1))))
 
-grid_short : (k : ℕ) (ms : List Lit) (first : ℕ) → HaveFewLiterals 4 (clauses_within k ms first)
+pub grid_short : (k : ℕ) (ms : List Lit) (first : ℕ) → HaveFewLiterals 4 (clauses_within k ms first)
 grid_short zero ms first = subst (HaveFewLiterals 4) (sym (clauses_last ms first)) (pairs_short ms)
 grid_short (suc more) ms first =
     elim (cases_lt 4 (length ms)) as (λ _. HaveFewLiterals 4 (clauses_within (suc more) ms first)) [
@@ -122,7 +122,7 @@ grid_short (suc more) ms first =
 place_short : (ms : List Lit) (width first : ℕ) (p : Place) → length (clause_at ms width first p) ≤ 4
 place_short ms width first p = grind arith
 
-counted_short : (ms : List Lit) (width first : ℕ) → HaveFewLiterals 4 (counter_clauses ms width first)
+pub counted_short : (ms : List Lit) (width first : ℕ) → HaveFewLiterals 4 (counter_clauses ms width first)
 counted_short ms width first = mapped 4 (clause_at ms width first) (place_short ms width first) (places (length ms) width)
 
 -- ---- trees
@@ -149,7 +149,7 @@ pub sum_short : (f g h : ℕ → Lit) (i j : ℕ) → length (sum_clause f g h i
 sum_short f g h i j =
     omega (arith, length-append (unless_none f i) (unless_none g j ++ h (i + j) ∷ []), length-append (unless_none g j) (h (i + j) ∷ []), unless_short f i, unless_short g j)
 
-totalizer_short : (m : BoundedSum) (first : ℕ) → HaveFewLiterals 4 (totalizer_clauses m first)
+pub totalizer_short : (m : BoundedSum) (first : ℕ) → HaveFewLiterals 4 (totalizer_clauses m first)
 totalizer_short m first =
     tree_short (totalizer m.bound)
     (λ us vs f g h. flattened 4 (λ i. map (sum_clause f g h i) (partners (m.bound + 1) (length vs) i)) (λ i. mapped 4 (sum_clause f g h i) (sum_short f g h i) (partners (m.bound + 1) (length vs) i)) (range_with_len 0 (length us + 1)))
@@ -163,7 +163,7 @@ generalized_own bound us vs f g h =
     (joined 4 (map (one_clause g h) vs) pairs (mapped 4 (one_clause g h) (λ v. omega arith) vs)
     (flattened 4 (λ u. map (both_clause cap f g h u) vs) (λ u. mapped 4 (both_clause cap f g h u) (λ v. omega arith) vs) us))
 
-generalized_short : (m : BoundedSum) (first : ℕ) → HaveFewLiterals 4 (generalized_clauses m first)
+pub generalized_short : (m : BoundedSum) (first : ℕ) → HaveFewLiterals 4 (generalized_clauses m first)
 generalized_short m first = tree_short (generalized m.bound) (generalized_own m.bound) (tree_of m.terms) first
 
 -- the clauses of a table of bounds
@@ -198,13 +198,13 @@ nodes_short first (t ∷ ts) (nodes ∷ levels) =
     joined 4 (level_clauses t (weight ts) (first + length nodes) (head_level levels) first nodes) (node_clauses (first + length nodes) ts levels)
     (level_short t (weight ts) (first + length nodes) first (head_level levels) nodes) (nodes_short (first + length nodes) ts levels)
 
-diagram_short : (m : BoundedSum) (first : ℕ) → HaveFewLiterals 4 (diagram_clauses m first)
+pub diagram_short : (m : BoundedSum) (first : ℕ) → HaveFewLiterals 4 (diagram_clauses m first)
 diagram_short m first =
     joined 4 (node_clauses first m.terms (levels_of m)) ((positive_of first ∷ []) ∷ []) (nodes_short first m.terms (levels_of m)) (one 4 (positive_of first ∷ []) (omega arith))
 
 -- ---- adders
 
-gate_short : (first : ℕ) (g : Gate) → HaveFewLiterals 4 (gate_clauses first g)
+pub gate_short : (first : ℕ) (g : Gate) → HaveFewLiterals 4 (gate_clauses first g)
 gate_short first (Full a b c made) = from_test 4 (gate_clauses first (Full a b c made)) refl
 gate_short first (Half a b made) = from_test 4 (gate_clauses first (Half a b made)) refl
 
@@ -231,11 +231,11 @@ sum_few_literals treatment.Adder m first small = adders_short m first small
 sum_few_literals other m first small = none 128
 
 -- a clause that is left has at most so many literals
-FitsIn : ℕ → Rest → Type 0
+unfoldable pub FitsIn : ℕ → Rest → Type 0
 FitsIn n (rest.Clause ls) = length ls ≤ n
 FitsIn n r = Unit {0}
 
-rest_fits : (c : Constraint) → FitsIn (length c.terms) (rest_of c)
+pub rest_fits : (c : Constraint) → FitsIn (length c.terms) (rest_of c)
 unfolding FitsIn
 rest_fits c = by_tests (is_too_light c) ((without_units c).degree == 0) (not (all_weigh 1 (core c).terms)) ((core c).degree == 1) (slack (core c) == 1)
   where

@@ -18,6 +18,7 @@ pub mod FewInEqualities
 pub mod FewLiterals
 pub mod Forced
 pub mod JointSums
+pub mod LiteralTotals
 pub mod Plain
 pub mod PlanParts
 pub mod Quotients

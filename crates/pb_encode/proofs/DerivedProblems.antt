@@ -1,5 +1,6 @@
 -- What the steps of a problem show.
 use Rattle.std.proofs.Common.{◌≡◌, ◌≤◌, ◌<◌, ◌+◌, ◌*◌, ◌^◌, ◌++◌, ℕ, List, [], ◌∷◌, length, ap, sym, subst, arith, length-append}
+use Rattle.std.proofs.Math.Nat.{add-mul}
 use Rattle.std.specs.Prelude.{All, sum_by}
 use Rattle.std.proofs.lemmas.List.Elements.{All-nil, All-cons, All-head, All-tail, All-append, All-weaker}
 use Rattle.std.proofs.lemmas.List.Sums.{sum_by-append, sum_by-cons}
@@ -34,15 +35,15 @@ use Rattle.pb_encode.specs.Steps.{loaded_steps, problem_steps, steps_from}
 use Rattle.pb_encode.specs.Summaries.{IsEncodable}
 use Rattle.pb_encode.specs.Tables.{table_terms}
 use Rattle.pb_encode.specs.inner.Streams.{steps_at_next}
-use Rattle.pb_encode.proofs.ChoiceLaws.{bytes_small}
+use Rattle.pb_encode.proofs.ChoiceLaws.{HasFewTerms, bytes_few}
 use Rattle.pb_encode.proofs.GroupDerivations.{IsGroupLight, term_total}
 use Rattle.pb_encode.proofs.GroupLists.{members_loaded, size_loaded}
 use Rattle.pb_encode.proofs.LoadedDatabases.{Stand, loaded_numbered, loaded_stand, loaded_unnamed}
-use Rattle.pb_encode.proofs.LoadedRuns.{IsEndOfAll, all-few, all-run, all-said}
+use Rattle.pb_encode.proofs.LoadedRuns.{AreSaid, IsEndOfAll, all-few, all-run, all-said}
 use Rattle.pb_choice.proofs.Composition.{IsOneBelow, IsReady}
 use Rattle.pb_encode.proofs.ProductSizes.{forms_clauses, terms-defining}
 use Rattle.pb_encode.proofs.Solutions.{forms_over, loaded_ready}
-use Rattle.pb_encode.proofs.SoundGroups.{groups_light, loaded_small, IsSmall}
+use Rattle.pb_encode.proofs.SoundGroups.{all_small, groups_light, loaded_small, IsSmall}
 use Rattle.pb_encode.proofs.StepTexts.{text_within}
 use Rattle.pb_encode.proofs.StepPositions.{ids-most, ids_in}
 use Rattle.pb_encode.proofs.TableTerms.{AreFit, table_fits}
@@ -50,9 +51,9 @@ use Rattle.pb_encode.proofs.TallyLemmas.{length-loaded}
 
 -- ---- the loaded constraints
 
-terms-small : (cs : List Constraint) → All IsSmall cs → term_total cs ≤ (2 ^ 20 + 1) * length cs
-terms-small [] small = omega arith
-terms-small (c ∷ cs) small = omega (arith, sum_by-cons (λ (d : Constraint). length d.terms) c cs, (All-head IsSmall c cs small).few, terms-small cs (All-tail IsSmall c cs small))
+pub terms_most : (most : ℕ) (cs : List Constraint) → All (HasFewTerms most) cs → term_total cs ≤ most * length cs
+terms_most most [] short = omega arith
+terms_most most (c ∷ cs) short = omega (arith, sum_by-cons (λ (d : Constraint). length d.terms) c cs, All-head (HasFewTerms most) c cs short, terms_most most cs (All-tail (HasFewTerms most) c cs short))
 
 module _ (o : Options) (p : Problem) (within : IsWithinLimits p) (encodable : IsEncodable o p) where
   abbrev cs : List Constraint
@@ -119,7 +120,7 @@ module _ (o : Options) (p : Problem) (within : IsWithinLimits p) (encodable : Is
         arith,
         sum_by-append (λ (c : Constraint). length c.terms) products (loaded p.statements),
         terms-defining (p.vars + 1) p.products,
-        terms-small (loaded p.statements) (loaded_small (originals p) p.statements within.numbers within.sums),
+        terms_most (2 ^ 20 + 1) (loaded p.statements) (All-weaker IsSmall (HasFewTerms (2 ^ 20 + 1)) (λ c h. h.few) (loaded p.statements) (loaded_small (originals p) p.statements within.numbers within.sums)),
         parts,
         loaded_count,
         length-loaded p.statements,
@@ -157,9 +158,6 @@ module _ (o : Options) (p : Problem) (within : IsWithinLimits p) (encodable : Is
 
   table_short : AreShort (length terms) (table_fresh terms) (table_size terms) table
   table_short = table_lines_short terms last behind small_table (omega (arith, fit.few))
-
-  table_bytes : sum_by line_size table ≤ 2 ^ 30 * table_fresh terms + 2 ^ 21 * table_size terms + 512 * length terms + 2 ^ 23
-  table_bytes = omega (arith, bytes_small (length terms) (table_fresh terms) (table_size terms) (sum_by line_size table) (omega (arith, fit.few)) (omega (arith, table_short.all)))
 
   before : List Step
   before = Head ∷ Loaded n ∷ []
@@ -215,26 +213,56 @@ module _ (o : Options) (p : Problem) (within : IsWithinLimits p) (encodable : Is
             (runs_append start mid derived.end constraints (table_steps terms last mid.next) (loaded_clauses o p) (table_clauses terms last) loaded_run.1 derived.runs),
       )
 
+  -- the lines of all steps, where neither a constraint nor the table has more than `most` terms
+  module _ (most : ℕ) (short : All (HasFewTerms most) cs) (few : length terms ≤ most) where
+    abbrev rest : List Step
+    rest = between ++ End ∷ []
+
+    said : AreSaid o most gs constraints
+    said =
+        all-said o most first first 1 gs (n + 1) light (subst (All (HasFewTerms most)) (sym (members_loaded p)) short) (omega arith) (omega arith) (omega (arith, encodable.vars)) (omega (arith, encodable.clauses)) (omega arith)
+        (omega (arith, sizes)) loaded_leave
+
+    pub problem_sayable : All IsSayable (problem_steps o p)
+    problem_sayable = All-append IsSayable (Head ∷ Loaded n ∷ []) rest before_sayable (All-append IsSayable between (End ∷ []) (All-append IsSayable constraints table said.sayable table_said) after_sayable)
+
+    pub problem_each : All Fits (problem_steps o p)
+    problem_each = All-append Fits (Head ∷ Loaded n ∷ []) rest before_short (All-append Fits between (End ∷ []) (All-append Fits constraints table said.each table_short.each) after_short)
+
+    table_bytes : sum_by line_size table ≤ 512 * (table_fresh terms * most) + 512 * length terms + 2 ^ 20 * (table_fresh terms + table_size terms + 3)
+    table_bytes = omega (arith, bytes_few most (length terms) 1 (table_fresh terms) (2 ^ 20 * (table_fresh terms + table_size terms + 3)) (sum_by line_size table) few table_short.all)
+
+    pub problem_bytes : sum_by line_size (problem_steps o p) ≤ 512 * (problem_fresh o p * most) + 512 * (term_total cs + length terms) + 2 ^ 20 * (problem_fresh o p + problem_count o p + 4 * n + 4)
+    problem_bytes =
+        let begin : sum_by line_size (Head ∷ Loaded n ∷ []) ≤ 58 = omega (arith, lines_sized (Head ∷ Loaded n ∷ []) before_sayable) in
+        let stop : sum_by line_size (End ∷ []) ≤ 4 = omega (arith, lines_sized (End ∷ []) after_sayable) in
+        omega (
+          arith,
+          sum_by-append line_size (Head ∷ Loaded n ∷ []) rest,
+          sum_by-append line_size between (End ∷ []),
+          sum_by-append line_size constraints table,
+          begin,
+          stop,
+          said.all,
+          table_bytes,
+          add-mul (fresh_total o gs) (table_fresh terms) most,
+          terms_are,
+          sizes,
+        )
+
   pub problem_derived : IsDerived o p
   problem_derived =
-      let said = all-said o first first 1 gs (n + 1) light (omega arith) (omega arith) (omega (arith, encodable.vars)) (omega (arith, encodable.clauses)) (omega arith) (omega (arith, sizes)) loaded_leave in
-      let rest : List Step = between ++ End ∷ [] in
-      let between_sayable : All IsSayable between = All-append IsSayable constraints table said.sayable table_said in
-      let between_short : All Fits between = All-append Fits constraints table said.each table_short.each in
-      let sayable : All IsSayable (problem_steps o p) = All-append IsSayable (Head ∷ Loaded n ∷ []) rest before_sayable (All-append IsSayable between (End ∷ []) between_sayable after_sayable) in
-      let each : All Fits (problem_steps o p) = All-append Fits (Head ∷ Loaded n ∷ []) rest before_short (All-append Fits between (End ∷ []) between_short after_short) in
+      let most : ℕ = 2 ^ 20 + 1 in
+      let short : All (HasFewTerms most) cs = All-weaker IsSmall (HasFewTerms most) (λ c h. h.few) cs (all_small o p within) in
+      let few : length terms ≤ most = omega (arith, fit.few) in
+      let sayable = problem_sayable most short few in
       let count : length (problem_steps o p) ≡ length between + 3 = omega (arith, length-append between (End ∷ [])) in
-      let size = sum_by-append line_size (Head ∷ Loaded n ∷ []) rest in
-      let size2 = sum_by-append line_size between (End ∷ []) in
-      let size3 = sum_by-append line_size constraints table in
-      let begin : sum_by line_size (Head ∷ Loaded n ∷ []) ≤ 58 = omega (arith, lines_sized (Head ∷ Loaded n ∷ []) before_sayable) in
-      let stop : sum_by line_size (End ∷ []) ≤ 4 = omega (arith, lines_sized (End ∷ []) after_sayable) in
       record {
         end = whole_run.0;
         runs = whole_run.1;
         few = omega (arith, few_between, count);
         sayable = sayable;
-        within = text_within (problem_steps o p) sayable each
+        within = text_within (problem_steps o p) sayable (problem_each most short few)
             (omega (arith, few_between, count, encodable.vars, loaded_count, encodable.clauses))
-            (omega (arith, size, size2, size3, begin, stop, said.all, table_bytes, fit.few, encodable.vars, loaded_count, loaded_terms, terms_are, sizes, encodable.clauses));
+            (omega (arith, problem_bytes most short few, fit.few, encodable.vars, loaded_count, loaded_terms, encodable.clauses));
       }

@@ -1,8 +1,8 @@
 -- What the derivation of one group shows, as the derivation of all of them asks it.
-use Rattle.std.proofs.Common.{◌≡◌, ◌≤◌, ◌<◌, ◌+◌, ◌*◌, ◌^◌, ℕ, List, length, ap, ◌∙◌, arith}
-use Rattle.std.proofs.Math.Nat.{add-mul, mul-le-mul_left}
-use Rattle.std.specs.Prelude.{sum_by}
+use Rattle.std.proofs.Common.{◌≡◌, ◌≤◌, ◌<◌, ◌+◌, ◌*◌, ◌^◌, ℕ, List, [], ◌∷◌, length, ap, ◌∙◌, arith}
+use Rattle.std.specs.Prelude.{All, sum_by}
 use Rattle.std.proofs.lemmas.List.{length-map}
+use Rattle.std.proofs.lemmas.List.Elements.{All-head}
 use Rattle.pb_norm.specs.Constraints.{Weighted, Constraint}
 use Rattle.pb_norm.specs.Reduction.{opposite}
 use Rattle.pb_steps.specs.Database.{Database}
@@ -20,7 +20,7 @@ use Rattle.pb_choice.proofs.EqualitySizes.{equalities_brief, equalities_few, equ
 use Rattle.pb_encode.specs.declared.groups.Group.{Group}
 use Rattle.pb_encode.specs.Groups.{group_clauses, group_count, group_fresh, group_size, group_steps, members}
 use Rattle.pb_encode.specs.declared.groups.Group.TheVariants.{Alone, Paired}
-use Rattle.pb_encode.proofs.ChoiceLaws.{IsLight, IsSaid, constraint-derives, constraint-few, constraint-said, light_below, light_original, modest}
+use Rattle.pb_encode.proofs.ChoiceLaws.{HasFewTerms, IsLight, IsSaid, bytes_few, constraint-derives, constraint-few, constraint-said, light_below, light_original, modest}
 use Rattle.pb_encode.proofs.GroupLists.{AreBoth, OfGroup}
 use Rattle.pb_encode.proofs.LoadedDatabases.{Stand}
 use Rattle.pb_encode.proofs.StepPositions.{leaves_next}
@@ -61,31 +61,24 @@ group-few o n (Paired c d) first id next light = omega (arith, equalities_few o 
 abbrev pub term_total : List Constraint → ℕ
 term_total cs = sum_by (λ (c : Constraint). length c.terms) cs
 
--- the bytes of all lines of an equality, where the terms are few
-both_bytes_small : (n fresh clauses bytes : ℕ) → n ≤ 2 ^ 20 + 1 → bytes ≤ 512 * (fresh + 2) * n + 2 ^ 20 * (fresh + clauses + 8) → bytes ≤ 2 ^ 30 * fresh + 2 ^ 21 * clauses + 512 * (n + n) + 2 ^ 23 * 2
-both_bytes_small n fresh clauses bytes few h =
-    let more : 512 * (fresh + 2) ≡ 512 * fresh + 1024 = omega arith in
-    let parts : 512 * (fresh + 2) * n ≡ 512 * fresh * n + 1024 * n = ap (λ (k : ℕ). k * n) more ∙ add-mul (512 * fresh) 1024 n in
-    omega (arith, h, parts, mul-le-mul_left (512 * fresh) few)
-
 -- the second half has as many terms as the first
 as_long : (o : Options) (n : ℕ) (c d : Constraint) → AreBoth (IsLight o n) c d → length d.terms ≡ length c.terms
 as_long o n c d light = ap (λ (ts : List Weighted). length ts) light.halves.turned ∙ length-map c.terms opposite
 
-pub group-said : (o : Options) (n first id next : ℕ) (g : Group) → IsGroupLight o n g → n ≤ first → 1 ≤ first → first + group_fresh o g ≤ 2 ^ 31 → group_count o g ≤ 2 ^ 56 → 1 ≤ id → id + group_size g ≤ next → LeavesIds (group_steps o g first id) next
-    → IsSaid (term_total (members g)) (group_size g) (group_fresh o g) (group_count o g) (group_steps o g first id next)
-group-said o n first id next (Alone c) light le low fits counted given known few =
-    let said = constraint-said o n first id next c light le low fits counted given (omega (arith, known)) (leaves_next (group_steps o (Alone c) first id) next few) in
+pub group-said : (o : Options) (most n first id next : ℕ) (g : Group) → IsGroupLight o n g → All (HasFewTerms most) (members g) → n ≤ first → 1 ≤ first → first + group_fresh o g ≤ 2 ^ 31 → group_count o g ≤ 2 ^ 56 → 1 ≤ id → id + group_size g ≤ next → LeavesIds (group_steps o g first id) next
+    → IsSaid most (term_total (members g)) (group_size g) (group_fresh o g) (group_count o g) (group_steps o g first id next)
+group-said o most n first id next (Alone c) light short le low fits counted given known few =
+    let said = constraint-said o most n first id next c light (All-head (HasFewTerms most) c [] short) le low fits counted given (omega (arith, known)) (leaves_next (group_steps o (Alone c) first id) next few) in
     let all = said.all in
     record { sayable = said.sayable; each = said.each; all = omega (arith, all) }
-group-said o n first id next (Paired c d) light le low fits counted given known few =
+group-said o most n first id next (Paired c d) light short le low fits counted given known few =
     let both = both_modest o n c d light in
     let original = light_original o n first c le light.lower in
     let soon = leaves_next (equality_steps o c d first id (id + 1)) next few in
     let lower_start : MayStart first (equality_fresh o c d) id next = record { low = low; fits = fits; given = given; known = omega (arith, known); few = omega (arith, soon) } in
     let upper_start : MayStart first (equality_fresh o c d) (id + 1) next = record { low = low; fits = fits; given = omega arith; known = omega (arith, known); few = omega (arith, soon) } in
     let brief = equalities_brief o c d first id (id + 1) next both counted original lower_start upper_start few (omega (arith, light.lower.few)) in
-    let bytes = both_bytes_small (length c.terms) (equality_fresh o c d) (equality_count o c d) (sum_by line_size (equality_steps o c d first id (id + 1) next)) light.lower.few brief.all in
+    let bytes = bytes_few most (length c.terms) 2 (equality_fresh o c d) (2 ^ 20 * (equality_fresh o c d + equality_count o c d + 8)) (sum_by line_size (equality_steps o c d first id (id + 1) next)) (All-head (HasFewTerms most) c (d ∷ []) short) brief.all in
     record {
       sayable = equalities_sayable o c d first id (id + 1) next both counted original lower_start upper_start few;
       each = brief.each;

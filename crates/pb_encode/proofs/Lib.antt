@@ -14,7 +14,9 @@ pub mod GroupComposition
 pub mod GroupDerivations
 pub mod GroupLists
 pub mod GroupParts
+pub mod HalfLists
 pub mod HalfSizes
+pub mod LiteralCounts
 pub mod LoadedDatabases
 pub mod LoadedRuns
 pub mod MadeFiles
@@ -24,6 +26,7 @@ pub mod PlainClauses
 pub mod Sends
 pub mod Handed
 pub mod ProblemSteps
+pub mod ProblemSizes
 pub mod ProductSizes
 pub mod Residuals
 pub mod Solutions
@@ -34,6 +37,7 @@ pub mod StreamSteps
 pub mod TableStreams
 pub mod TableTerms
 pub mod TallyLemmas
+pub mod TextSizes
 pub mod Hinting
 pub mod Walks
 pub mod WeightedTexts

@@ -1,9 +1,11 @@
 -- The derivations of groups run one after another.
-use Rattle.std.proofs.Common.{◌≡◌, ◌≤◌, ◌<◌, ◌+◌, ◌*◌, ◌^◌, ◌++◌, ℕ, List, [], ◌∷◌, length, refl, subst, arith, length-append}
+use Rattle.std.proofs.Common.{◌≡◌, ◌≤◌, ◌<◌, ◌+◌, ◌*◌, ◌^◌, ◌++◌, ℕ, List, [], ◌∷◌, length, refl, ap, subst, ◌∙◌, arith, length-append}
+use Rattle.std.proofs.Math.Nat.{add-mul}
 use Rattle.std.specs.Prelude.{All, sum_by}
 use Rattle.std.proofs.lemmas.List.Elements.{All-nil, All-head, All-tail, All-append}
 use Rattle.std.proofs.lemmas.List.Sums.{sum_by-append, sum_by-cons}
 use Rattle.pb_base.specs.declared.literal.Lit.{Lit}
+use Rattle.pb_base.proofs.Members.{All-append_both}
 use Rattle.pb_norm.specs.Constraints.{Constraint}
 use Rattle.pb_steps.specs.declared.step.Step.{Step}
 use Rattle.pb_steps.specs.Database.{Database}
@@ -19,6 +21,7 @@ use Rattle.pb_encode.specs.Clauses.{clauses_from, clause_total, fresh_total}
 use Rattle.pb_encode.specs.declared.groups.Group.{Group}
 use Rattle.pb_encode.specs.Groups.{all_members, group_clauses, group_count, group_fresh, group_size, group_steps, members, size_total}
 use Rattle.pb_encode.specs.Steps.{steps_from}
+use Rattle.pb_encode.proofs.ChoiceLaws.{HasFewTerms}
 use Rattle.pb_encode.proofs.GroupDerivations.{IsGroupLight, group-derives, group-few, group-said, term_total}
 use Rattle.pb_encode.proofs.GroupLists.{size-members}
 use Rattle.pb_encode.proofs.LoadedDatabases.{Stand, stand_first, stand_later, stand_rest}
@@ -103,19 +106,19 @@ all-few o n first id (g ∷ gs) next light =
       size-cons g gs,
     )
 
--- the lines of all
-pub record AreSaid (o : Options) (gs : List Group) (steps : List Step) : Type 0 where
+-- the lines of all, where no constraint has more than `most` terms
+pub record AreSaid (o : Options) (most : ℕ) (gs : List Group) (steps : List Step) : Type 0 where
   pub sayable : All IsSayable steps
   pub each : All (λ s. line_size s ≤ 2 ^ 28) steps
-  pub all : sum_by line_size steps ≤ 2 ^ 30 * fresh_total o gs + 2 ^ 21 * clause_total o gs + 512 * term_total (all_members gs) + 2 ^ 23 * size_total gs
+  pub all : sum_by line_size steps ≤ 512 * (fresh_total o gs * most) + 512 * term_total (all_members gs) + 2 ^ 20 * (fresh_total o gs + clause_total o gs + 4 * size_total gs)
 
 terms-cons : (g : Group) (gs : List Group) → term_total (all_members (g ∷ gs)) ≡ term_total (members g) + term_total (all_members gs)
 terms-cons g gs = sum_by-append (λ (c : Constraint). length c.terms) (members g) (all_members gs)
 
-pub all-said : (o : Options) (n first id : ℕ) (gs : List Group) (next : ℕ) → All (IsGroupLight o n) gs → n ≤ first → 1 ≤ first → first + fresh_total o gs ≤ 2 ^ 31 → clause_total o gs ≤ 2 ^ 56 → 1 ≤ id → id + size_total gs ≤ next → LeavesIds (steps_from o first id gs) next
-    → AreSaid o gs (steps_from o first id gs next)
-all-said o n first id [] next light le low fits counted given known few = record { sayable = All-nil IsSayable; each = All-nil (λ (s : Step). line_size s ≤ 2 ^ 28); all = omega arith }
-all-said o n first id (g ∷ gs) next light le low fits counted given known few =
+pub all-said : (o : Options) (most n first id : ℕ) (gs : List Group) (next : ℕ) → All (IsGroupLight o n) gs → All (HasFewTerms most) (all_members gs) → n ≤ first → 1 ≤ first → first + fresh_total o gs ≤ 2 ^ 31 → clause_total o gs ≤ 2 ^ 56 → 1 ≤ id → id + size_total gs ≤ next → LeavesIds (steps_from o first id gs) next
+    → AreSaid o most gs (steps_from o first id gs next)
+all-said o most n first id [] next light short le low fits counted given known few = record { sayable = All-nil IsSayable; each = All-nil (λ (s : Step). line_size s ≤ 2 ^ 28); all = omega arith }
+all-said o most n first id (g ∷ gs) next light short le low fits counted given known few =
     let steps : List Step = group_steps o g first id next in
     let after : ℕ = next + ids_in steps in
     let later_first : ℕ = first + group_fresh o g in
@@ -123,10 +126,12 @@ all-said o n first id (g ∷ gs) next light le low fits counted given known few 
     let more : List Step = steps_from o later_first later_id gs after in
     let ids = ids-append steps more in
     let sizes = size-cons g gs in
-    let own = group-said o n first id next g (All-head (IsGroupLight o n) g gs light) le low (omega (arith, fits, fresh-cons o g gs)) (omega (arith, counted, count-cons o g gs)) given (omega (arith, known, sizes)) (omega (arith, few, ids)) in
-    let rest = all-said o n later_first later_id gs after (All-tail (IsGroupLight o n) g gs light) (omega (arith, le)) (omega (arith, low)) (omega (arith, fits, fresh-cons o g gs)) (omega (arith, counted, count-cons o g gs)) (omega (arith, given)) (omega (arith, known, sizes)) (omega (arith, few, ids)) in
+    let shorts = All-append_both (HasFewTerms most) (members g) (all_members gs) short in
+    let parts : fresh_total o (g ∷ gs) * most ≡ group_fresh o g * most + fresh_total o gs * most = ap (λ (k : ℕ). k * most) (fresh-cons o g gs) ∙ add-mul (group_fresh o g) (fresh_total o gs) most in
+    let own = group-said o most n first id next g (All-head (IsGroupLight o n) g gs light) shorts.0 le low (omega (arith, fits, fresh-cons o g gs)) (omega (arith, counted, count-cons o g gs)) given (omega (arith, known, sizes)) (omega (arith, few, ids)) in
+    let rest = all-said o most n later_first later_id gs after (All-tail (IsGroupLight o n) g gs light) shorts.1 (omega (arith, le)) (omega (arith, low)) (omega (arith, fits, fresh-cons o g gs)) (omega (arith, counted, count-cons o g gs)) (omega (arith, given)) (omega (arith, known, sizes)) (omega (arith, few, ids)) in
     record {
       sayable = All-append IsSayable steps more own.sayable rest.sayable;
       each = All-append (λ (s : Step). line_size s ≤ 2 ^ 28) steps more own.each rest.each;
-      all = omega (arith, sum_by-append line_size steps more, own.all, rest.all, fresh-cons o g gs, count-cons o g gs, terms-cons g gs, sizes);
+      all = omega (arith, sum_by-append line_size steps more, own.all, rest.all, parts, fresh-cons o g gs, count-cons o g gs, terms-cons g gs, sizes);
     }

@@ -2,7 +2,7 @@
 use Rattle.std.proofs.Common.{◌≡◌, ◌≤◌, ◌<◌, ◌+◌, ◌*◌, ℕ, List, [], ◌∷◌, length, map, take, get_or, All, refl, ap, subst, sym, arith, length-append}
 use Rattle.std.specs.Prelude.{sum_by}
 use Rattle.std.proofs.lemmas.List.{length-map}
-use Rattle.std.proofs.lemmas.List.Elements.{All-nil, All-head, All-tail}
+use Rattle.std.proofs.lemmas.List.Elements.{All-append, All-cons, All-head, All-map, All-nil, All-tail, All-weaker}
 use Rattle.std.proofs.lemmas.List.Sums.{sum_by-append, sum_by-cons}
 use Rattle.pb_base.specs.declared.literal.Lit.{Lit}
 use Rattle.pb_base.specs.Literals.{negated, IsModel}
@@ -19,6 +19,7 @@ use Rattle.pb_choice.proofs.RestLaws.{IsTrueClause}
 use Rattle.pb_encode.specs.Clauses.{clause_total}
 use Rattle.pb_encode.specs.Groups.{group_count, singles}
 use Rattle.pb_encode.specs.declared.groups.Group.TheVariants.{Alone}
+use Rattle.pb_encode.proofs.ChoiceLaws.{HasFewTerms}
 use Rattle.pb_encode.proofs.GroupDerivations.{term_total}
 
 -- ---- terms
@@ -56,6 +57,24 @@ terms-defining v (ls ∷ products) =
     let here = product_constraints (plain v) ls in
     let rest = defining (v + 1) products in
     omega (arith, sum_by-append (λ (c : Constraint). length c.terms) here rest, length-append here rest, terms-product (plain v) ls, terms-defining (v + 1) products)
+
+-- no clause of a product has more literals than the product and one more
+clauses_short : (most : ℕ) (z : Lit) (ls : List Lit) → 2 ≤ length ls → length ls < most → All (λ ks. length ks ≤ most) (product_clauses z ls)
+clauses_short most z ls some few =
+    let Few : List Lit → Type 0 = λ ks. length ks ≤ most in
+    All-append Few (map (implied z) ls) (implying z ls ∷ []) (All-map Few (implied z) ls (λ i d w. omega (arith, some, few)))
+    (All-cons Few (implying z ls) [] (omega (arith, few, length-map ls negated)) (All-nil Few))
+
+-- so no constraint has more terms
+pub defining_few : (most v : ℕ) (products : List (List Lit)) → All (λ ls. 2 ≤ length ls) products → All (λ ls. length ls < most) products → All (HasFewTerms most) (defining v products)
+defining_few most v [] some few = All-nil (HasFewTerms most)
+defining_few most v (ls ∷ products) some few =
+    let Some : List Lit → Type 0 = λ ks. 2 ≤ length ks in
+    let Few : List Lit → Type 0 = λ ks. length ks < most in
+    let clauses = product_clauses (plain v) ls in
+    All-append (HasFewTerms most) (product_constraints (plain v) ls) (defining (v + 1) products)
+    (All-map (HasFewTerms most) clause_form clauses (All-weaker (λ ks. length ks ≤ most) (λ ks. HasFewTerms most (clause_form ks)) (λ ks h. omega (arith, h, form-short ks)) clauses (clauses_short most (plain v) ls (All-head Some ls products some) (All-head Few ls products few))))
+    (defining_few most (v + 1) products (All-tail Some ls products some) (All-tail Few ls products few))
 
 -- those of one product more
 pub length-more : (v i : ℕ) (products : List (List Lit)) (ls : List Lit) → i < length products → ls ≡ get_or products i ls → length (defining v (take (i + 1) products)) ≡ length (defining v (take i products)) + (length ls + 1)

@@ -7,16 +7,13 @@ use Rattle.std.proofs.lemmas.List.{ext_get_or, length-map, length-take, take-tak
 use Rattle.std.proofs.lemmas.List.FromFn.{get_or-map-range_with_len, take-map-range_with_len, length-range_with_len}
 use Rattle.std.proofs.lemmas.List.Elements.{All-nil, All-cons, All-contains, All-head, All-map, All-tail, All-append, All-weaker}
 use Rattle.pb_base.specs.declared.literal.Lit.{Lit}
-use Rattle.pb_base.specs.declared.problem.Relation.{Relation}
-use Rattle.pb_base.specs.declared.problem.Relation.TheVariants.{AtLeast, AtMost, Equal}
 use Rattle.pb_base.specs.declared.problem.Raw.{Raw}
 use Rattle.pb_base.specs.declared.problem.Problem.{Problem}
 use Rattle.pb_base.specs.Literals.{Assignment, AgreeBelow, IsModel, assigned_by, clause_value, lit_value}
 use Rattle.pb_base.specs.Problems.{IsSolution, IsSumWithin, IsWithinLimits, StaysBelow, originals}
-use Rattle.pb_norm.specs.declared.halves.Half.TheVariants.{Lower, Upper}
 use Rattle.pb_norm.specs.BoundedSums.{vars_of}
 use Rattle.pb_norm.specs.Constraints.{Constraint, IsLinear, Holds, Solves, Weighted, value}
-use Rattle.pb_norm.specs.Halves.{loaded, half_of, halves_of, constraints_of}
+use Rattle.pb_norm.specs.Halves.{loaded, half_of}
 use Rattle.pb_norm.specs.Products.{defining, loaded_of}
 use Rattle.pb_norm.proofs.Agreement.{IsModel-agree, cut-agrees, lit_value-agree, value-agree}
 use Rattle.pb_norm.proofs.Solutions.{are_fronts}
@@ -35,18 +32,13 @@ use Rattle.pb_encode.specs.Models.{IsModelOver, HasSolutionsOf}
 use Rattle.pb_encode.proofs.GroupClauses.{IsGroupReady}
 use Rattle.pb_encode.proofs.GroupComposition.{all-count, all-extend, all-sound, all-within}
 use Rattle.pb_encode.proofs.GroupLists.{groups_by, groups_matched, members_loaded}
+use Rattle.pb_encode.proofs.HalfLists.{loaded_each}
 use Rattle.pb_encode.proofs.TableTerms.{table_below, table_fits}
 
 -- ---- the loaded constraints are in normal form, over the problem's variables
 
-halves_linear : (s : Raw) (r : Relation) → StaysBelow (2 ^ 126) s → All IsLinear (map (λ half. half_of half s) (halves_of r))
-halves_linear s AtLeast small = All-cons IsLinear (half_of Lower s) [] (made-linear Lower s (half_of Lower s) small refl) (All-nil IsLinear)
-halves_linear s AtMost small = All-cons IsLinear (half_of Upper s) [] (made-linear Upper s (half_of Upper s) small refl) (All-nil IsLinear)
-halves_linear s Equal small = All-cons IsLinear (half_of Lower s) (half_of Upper s ∷ []) (made-linear Lower s (half_of Lower s) small refl) (All-cons IsLinear (half_of Upper s) [] (made-linear Upper s (half_of Upper s) small refl) (All-nil IsLinear))
-
 loaded_linear : (ss : List Raw) → All (StaysBelow (2 ^ 126)) ss → All IsLinear (loaded ss)
-loaded_linear [] small = All-nil IsLinear
-loaded_linear (s ∷ ss) small = All-append IsLinear (constraints_of s) (loaded ss) (halves_linear s s.relation (All-head (StaysBelow (2 ^ 126)) s ss small)) (loaded_linear ss (All-tail (StaysBelow (2 ^ 126)) s ss small))
+loaded_linear ss small = loaded_each IsLinear (StaysBelow (2 ^ 126)) (λ s half h. made-linear half s (half_of half s) h refl) ss small
 
 pub wider : (ss : List Raw) → All (StaysBelow (2 ^ 100)) ss → All (StaysBelow (2 ^ 126)) ss
 wider ss small = All-weaker (StaysBelow (2 ^ 100)) (StaysBelow (2 ^ 126)) (λ s h. omega (arith, h)) ss small

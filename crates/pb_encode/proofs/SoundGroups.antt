@@ -1,16 +1,13 @@
 -- The groups of a problem are light, and over its variables.
-use Rattle.std.proofs.Common.{◌≤◌, ◌<◌, ◌+◌, ◌^◌, ℕ, List, [], ◌∷◌, length, map, sym, subst, arith}
+use Rattle.std.proofs.Common.{◌≤◌, ◌<◌, ◌+◌, ◌^◌, ℕ, List, [], ◌∷◌, length, sym, subst, arith}
 use Rattle.std.specs.Prelude.{All}
 use Rattle.std.proofs.lemmas.List.Elements.{All-nil, All-cons, All-head, All-tail, All-append, All-weaker}
 use Rattle.pb_base.specs.declared.problem.Problem.{Problem}
 use Rattle.pb_base.specs.declared.problem.Raw.{Raw}
-use Rattle.pb_base.specs.declared.problem.Relation.{Relation}
-use Rattle.pb_base.specs.declared.problem.Relation.TheVariants.{AtLeast, AtMost, Equal}
 use Rattle.pb_base.specs.Problems.{IsSumWithin, IsWithinLimits, StaysBelow, originals}
 use Rattle.pb_norm.specs.declared.halves.Half.{Half}
-use Rattle.pb_norm.specs.declared.halves.Half.TheVariants.{Lower, Upper}
 use Rattle.pb_norm.specs.Constraints.{Constraint, weight}
-use Rattle.pb_norm.specs.Halves.{constraints_of, half_of, halves_of, loaded}
+use Rattle.pb_norm.specs.Halves.{half_of, loaded}
 use Rattle.pb_norm.specs.Products.{defining, loaded_of}
 use Rattle.pb_norm.proofs.ClauseTerms.{length-weight}
 use Rattle.pb_norm.proofs.ProductForms.{IsFormOver}
@@ -23,6 +20,7 @@ use Rattle.pb_encode.specs.inner.GroupPlans.{IsSound}
 use Rattle.pb_encode.proofs.ChoiceLaws.{IsLight, light_below}
 use Rattle.pb_encode.proofs.GroupDerivations.{IsGroupLight}
 use Rattle.pb_encode.proofs.GroupLists.{groups_by, groups_matched, members_loaded}
+use Rattle.pb_encode.proofs.HalfLists.{loaded_each}
 use Rattle.pb_encode.proofs.HalfSizes.{half_light, half_short}
 use Rattle.pb_encode.proofs.Solutions.{forms_over, loaded_ready}
 
@@ -34,17 +32,9 @@ pub record IsSmall (c : Constraint) : Type 0 where
 half_small : (s : Raw) (half : Half) → StaysBelow (2 ^ 100) s → length s.terms ≤ 2 ^ 20 → IsSmall (half_of half s)
 half_small s half small few = record { weight = half_light half s (2 ^ 100) small; few = omega (arith, half_short half s, few) }
 
-halves_small : (s : Raw) (r : Relation) → StaysBelow (2 ^ 100) s → length s.terms ≤ 2 ^ 20 → All IsSmall (map (λ half. half_of half s) (halves_of r))
-halves_small s AtLeast small few = All-cons IsSmall (half_of Lower s) [] (half_small s Lower small few) (All-nil IsSmall)
-halves_small s AtMost small few = All-cons IsSmall (half_of Upper s) [] (half_small s Upper small few) (All-nil IsSmall)
-halves_small s Equal small few = All-cons IsSmall (half_of Lower s) (half_of Upper s ∷ []) (half_small s Lower small few) (All-cons IsSmall (half_of Upper s) [] (half_small s Upper small few) (All-nil IsSmall))
-
 pub loaded_small : (vars : ℕ) (ss : List Raw) → All (StaysBelow (2 ^ 100)) ss → All (λ s. IsSumWithin vars s.terms) ss → All IsSmall (loaded ss)
-loaded_small vars [] small within = All-nil IsSmall
-loaded_small vars (s ∷ ss) small within =
-    All-append IsSmall (constraints_of s) (loaded ss)
-    (halves_small s s.relation (All-head (StaysBelow (2 ^ 100)) s ss small) (All-head (λ (t : Raw). IsSumWithin vars t.terms) s ss within).count)
-    (loaded_small vars ss (All-tail (StaysBelow (2 ^ 100)) s ss small) (All-tail (λ (t : Raw). IsSumWithin vars t.terms) s ss within))
+loaded_small vars ss small within =
+    loaded_each IsSmall (λ s. StaysBelow (2 ^ 100) s × IsSumWithin vars s.terms) (λ s half h. half_small s half h.0 h.1.count) ss (λ i d w. (small i d w, within i d w))
 
 light_each : (o : Options) (n : ℕ) (cs : List Constraint) → All (IsReady o n) cs → All IsSmall cs → All (IsLight o n) cs
 light_each o n [] ready small = All-nil (IsLight o n)
@@ -54,8 +44,8 @@ light_each o n (c ∷ cs) ready small =
     (light_each o n cs (All-tail (IsReady o n) c cs ready) (All-tail IsSmall c cs small))
 
 module _ (o : Options) (p : Problem) (within : IsWithinLimits p) where
-  small : All IsSmall (loaded_of p)
-  small =
+  pub all_small : All IsSmall (loaded_of p)
+  all_small =
       All-append IsSmall (defining (p.vars + 1) p.products) (loaded p.statements)
       (All-weaker (IsFormOver (IsOneBelow (originals p + 1))) IsSmall (λ c form. record { weight = omega (arith, form.weight); few = omega (arith, form.weight, length-weight c.terms form.linear.positive) }) (defining (p.vars + 1) p.products) (forms_over p within))
       (loaded_small (originals p) p.statements within.numbers within.sums)
@@ -63,7 +53,7 @@ module _ (o : Options) (p : Problem) (within : IsWithinLimits p) where
   pub groups_light : All (IsGroupLight o (originals p + 1)) (groups_of p)
   groups_light =
       let Light = IsLight o (originals p + 1) in
-      groups_by Light (groups_of p) (groups_matched p) (subst (All Light) (sym (members_loaded p)) (light_each o (originals p + 1) (loaded_of p) (loaded_ready o p within) small))
+      groups_by Light (groups_of p) (groups_matched p) (subst (All Light) (sym (members_loaded p)) (light_each o (originals p + 1) (loaded_of p) (loaded_ready o p within) all_small))
 
 -- ---- below any greater number
 

@@ -22,7 +22,7 @@ text_lines (s ∷ steps) sayable =
     ∙ lines_break (step_line s) (steps_text steps) (line_unbroken s (All-head IsSayable s steps sayable))
     ∙ ap (λ (ls : List (List ℕ)). step_line s ∷ ls) (text_lines steps (All-tail IsSayable s steps sayable))
 
-text_size : (steps : List Step) → length (steps_text steps) ≡ sum_by line_size steps
+pub text_size : (steps : List Step) → length (steps_text steps) ≡ sum_by line_size steps
 unfolding steps_text
 text_size [] = refl
 text_size (s ∷ steps) = omega (arith, sum_by-cons line_size s steps, length-append (step_text s) (steps_text steps), length-append (step_line s) (codes "\n"), text_size steps)

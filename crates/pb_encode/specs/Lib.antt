@@ -6,6 +6,7 @@ pub mod Derived
 pub mod Encodings
 pub mod Groups
 pub mod Models
+pub mod Sizes
 pub mod Steps
 pub mod Summaries
 pub mod Tables

@@ -1,3 +1,4 @@
 pub mod BoundExamples
 pub mod CostExamples
 pub mod GroupExamples
+pub mod SizeExamples

@@ -17,6 +17,7 @@ mod models;
 mod objective;
 mod plain;
 mod position;
+mod sizes;
 mod streaming;
 mod summary;
 mod table;
@@ -35,6 +36,7 @@ pub use models::{
     groups_have_the_constraints, rows_bound_the_objective,
 };
 pub use objective::{objective_form, offset_by};
+pub use sizes::texts_have_few_bytes;
 pub use summary::{Summary, Treatments, summary_text};
 pub use weighing::{
     costs_add_up, hard_clauses_have_the_costs, weighted, weighted_text_says_the_clauses,

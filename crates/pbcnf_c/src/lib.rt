@@ -49,8 +49,8 @@ use std::alloc::Global;
 use weighing::weigh_into;
 use words::words_into;
 
-// 0.4.0, a byte for each of its numbers.
-const VERSION: u32 = 0x00_04_00;
+// 0.4.1, a byte for each of its numbers.
+const VERSION: u32 = 0x00_04_01;
 
 // Which calls and structs there are: one more where a struct, a number or what a call means becomes another.
 const ABI: u32 = 1;
@@ -58,7 +58,7 @@ const ABI: u32 = 1;
 /// The version of the library: a byte for each of its three numbers.
 #[unsafe(no_mangle)]
 pub extern "C" fn pbcnf_version() -> u32
-    ensures { result ≡ 1024 }
+    ensures { result ≡ 1025 }
 {
     VERSION
 }
