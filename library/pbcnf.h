@@ -29,11 +29,11 @@
 extern "C" {
 #endif
 
-#define PBCNF_VERSION "0.4.0"
+#define PBCNF_VERSION "0.4.1"
 /* Which structs, numbers and meanings the calls below have. A library of others answers another number by pbcnf_abi. */
 #define PBCNF_ABI 1
 
-/* The version of the library that is there: a byte for each of its three numbers, 0x000400 for 0.4.0.
+/* The version of the library that is there: a byte for each of its three numbers, 0x000401 for 0.4.1.
  *
  *      assert(pbcnf_version() >= 0x000400);
  */

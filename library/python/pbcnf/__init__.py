@@ -35,7 +35,7 @@ __all__ = [
     "derive_constraint", "derive_constraints", "dimacs", "encode", "names", "refute", "softs", "wcnf",
 ]
 
-__version__ = "0.4.0"
+__version__ = "0.4.1"
 
 Text = Union[str, bytes, bytearray, memoryview, "mmap.mmap"]
 Terms = Iterable[Tuple[int, int]]
