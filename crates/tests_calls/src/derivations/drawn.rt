@@ -95,14 +95,15 @@ fn draw_weighted_kind(state: &mut u32) -> Kind {
     }
 }
 
-// True if a derivation is accepted, and without a drawn line only where that deletes.
+// True if a derivation is accepted, and without a drawn line only if that deletes. (What deletes a diagram's guard is needed, too: the
+// guards of all levels are one variable.)
 fn is_accepted_whole(alloc: Global, state: &mut u32, opb: &str, files: &Files) -> Option<bool> {
     let proof = files.proof.as_str();
     let whole = is_accepted(alloc, opb, files.cnf.as_str(), proof)?;
     let place = (draw(state) as usize).checked_rem(proof.lines().count())?;
     let deletes = proof.lines().nth(place)?.starts_with("del ");
     let broken = is_accepted_with(alloc, opb, files, place, "*")?;
-    Some(whole && broken == deletes)
+    Some(whole && (deletes || !broken))
 }
 
 // The same of a sum's derivation by a family.

@@ -234,10 +234,20 @@ fn by_system(rt: &HostRuntime, asked: &Asked, from: &str, to: &str) -> Result<An
     answers(&mut RealDesk::new(system), asked, from, to)
 }
 
-// True if a file holds this text.
-fn holds(rt: &HostRuntime, name: &str, text: &str) -> bool {
+// True if all bytes are blanks.
+fn are_blanks(bytes: &[u8]) -> bool {
+    for byte in bytes {
+        if *byte != b' ' {
+            return false;
+        }
+    }
+    true
+}
+
+// True if a file holds three whole pieces of blanks.
+fn holds_pieces(rt: &HostRuntime, name: &str) -> bool {
     match fs::read_to_string(rt, name) {
-        Ok(kept) => kept.as_str() == text,
+        Ok(kept) => kept.as_str().len() == 3 * PIECE && are_blanks(kept.as_str().as_bytes()),
         Err(_) => false,
     }
 }
@@ -265,7 +275,7 @@ fn the_system_keeps_a_file(rt: HostRuntime) {
     // By another name it keeps its bytes.
     let over_dotted = by_system(&rt, &Asked::Reads, name, dotted);
     let over_linked = by_system(&rt, &Asked::Reads, name, linked);
-    let kept = holds(&rt, name, "+1 x1+1 x1+1 x1");
+    let kept = holds_pieces(&rt, name);
     let cleared = is_cleared(&rt, name, linked);
     let absent = by_system(&rt, &Asked::Reads, name, name);
     assert!(rt; laid && kept && cleared);
@@ -276,9 +286,9 @@ fn the_system_keeps_a_file(rt: HostRuntime) {
         absent.ok(),
     ];
     let expected = [
-        Some([Some(5), Some(5), Some(5), Some(0)]),
-        Some([Some(15), Some(0), Some(0), None]),
-        Some([Some(15), Some(0), Some(0), None]),
+        Some([Some(PIECE), Some(PIECE), Some(PIECE), Some(0)]),
+        Some([Some(PIECE), Some(PIECE), Some(PIECE), None]),
+        Some([Some(PIECE), Some(PIECE), Some(PIECE), None]),
         None,
     ];
     assert_eq!(rt; found, expected);
