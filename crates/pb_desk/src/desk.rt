@@ -75,8 +75,8 @@ pub trait Desk {
         // On a steady desk it fails only if the name or the slot was used, or the name has more than 255 bytes.
         ensures steady { IsSteady (state self.old) → OnErr result (IsTold (state self.old) (λ t. IsTaken slot name.now t.made)) };
 
-    /// Appends a first part of the piece. A piece that is smaller than a whole one and is taken whole is the last one of its file: a file is
-    /// written by pieces of more than 65,472 bytes, but for the last one.
+    /// Appends a first part of the piece. A piece of at most 65,472 bytes that is taken whole is the last one of its file, behind which
+    /// nothing is written.
     fn write(&mut self, slot: u8, piece: &[u8]) -> Result<usize, Failed>
         requires kind { slot < 2 }
         requires open { IsTrue ((state self.old).view.writing slot) }
