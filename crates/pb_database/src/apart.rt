@@ -15,7 +15,7 @@ use pb_norm::Linear;
 use pb_unit::{Constraints, is_conflicting};
 use std::alloc::Global;
 
-/// A list of one constraint.
+/// Returns a list of one constraint.
 pub(crate) fn one(alloc: Global, constraint: &Linear) -> Result<Constraints, NoMemory>
     ensures { IfOk result (λ list. list ≡ constraint.now ∷ []) }
 {
@@ -24,7 +24,7 @@ pub(crate) fn one(alloc: Global, constraint: &Linear) -> Result<Constraints, NoM
     Ok(list)
 }
 
-/// A list of one or two.
+/// Returns a list of one constraint or two.
 pub(crate) fn front(
     alloc: Global,
     first: &Linear,
@@ -66,7 +66,7 @@ fn push_slots(alloc: Global, slots: &[Slot], list: &mut Constraints) -> Result<(
     Ok(())
 }
 
-// Adds the constraint with an id, if it stands.
+// Adds the constraint with an id to a list, if it is live.
 fn push_at(alloc: Global, slots: &[Slot], id: u64, list: &mut Constraints) -> Result<(), NoMemory>
     ensures { OnOk result (list.new ≡ list.old ++ option_to_list (slot_of slots.now id).constraint) }
 {
@@ -95,7 +95,7 @@ fn push_listed(
     Ok(())
 }
 
-/// Whether propagation over constraints and those of slots reaches a conflict.
+/// True if propagation over the constraints of a list and those of all slots reaches a conflict.
 pub(crate) fn is_refuted_with_all(
     alloc: Global,
     front: Constraints,
@@ -109,7 +109,7 @@ pub(crate) fn is_refuted_with_all(
     Ok(found)
 }
 
-/// The same over those with the ids alone.
+/// True if propagation over the constraints of a list and those with the ids reaches a conflict.
 pub(crate) fn is_refuted_with_listed(
     alloc: Global,
     front: Constraints,

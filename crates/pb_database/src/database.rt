@@ -1,4 +1,4 @@
-//! The constraints that stand.
+//! The constraints that are live.
 ghost use Rattle.std.specs.Prelude.{◌≡◌, ◌≤◌, ◌<◌, ◌∷◌, ◌++◌, [], IfOk, IfSome, OnOk, OnErr, All, filter_map, length, take};
 ghost use Rattle.std.specs.Option.{option_copied, option_to_list};
 ghost use Rattle.pb_norm.specs.Constraints.{HasVarsWithin, AreVarsWithin};
@@ -27,14 +27,15 @@ use pb_unit::{Constraints, Engine, Rounds};
 use std::alloc::Global;
 use std::marker::Model;
 
-/// The constraints that stand while a derivation is checked, by their ids. The sum of the coefficients and the degree of each are below 2^126.
+/// The constraints that are live while a derivation is checked, by their ids. The sum of the coefficients and the degree of each are
+/// below 2^126.
 pub struct Database {
     original: u32,
     vars: u32,
     // Engines and rounds are over so many variables. Where there are more, propagation goes over those that occur, apart.
     most: u32,
     slots: Vec<Slot>,
-    // The constraints of so many of the first slots stand in the engine. The others join them before all that stands is propagated over.
+    // The constraints of so many of the first slots are live in the engine. The others join them before all live ones are propagated over.
     entered: usize,
     engine: Engine,
     // For listed constraints alone.
@@ -43,7 +44,7 @@ pub struct Database {
     rounds: Rounds,
     // By fresh variables, ids of constraints that have them.
     named: Vec<Named>,
-    // So many ids of constraints that do not stand are listed there; past so many a sweep pays for itself. Nothing is true by these counts.
+    // So many ids of deleted constraints are listed there; past the limit a sweep pays for itself. No contract depends on these counts.
     left: usize,
     limit: usize,
     alloc: Global,
@@ -81,7 +82,7 @@ impl Model for Database {
     ghost invariant = { λ d. IsKept d.original d.vars d.most d.slots.items d.entered d.engine d.idle d.rounds d.named.items };
 }
 
-// The slots of constraints that are loaded.
+// Makes the slots of constraints that are loaded.
 fn loaded_slots(alloc: Global, loaded: &[Linear]) -> Result<Vec<Slot>, NoMemory>
     ensures { IfOk result (λ v. v.items ≡ placed_from 0 loaded.now) }
 {
@@ -93,7 +94,7 @@ fn loaded_slots(alloc: Global, loaded: &[Linear]) -> Result<Vec<Slot>, NoMemory>
     Ok(slots)
 }
 
-// The index of constraints that are loaded, with lists for so many variables.
+// Makes the index of constraints that are loaded, with lists for so many variables.
 fn loaded_index(
     alloc: Global,
     size: u32,
@@ -111,7 +112,7 @@ fn loaded_index(
     Ok(lists)
 }
 
-// The constraints again.
+// Copies the constraints.
 fn copies(alloc: Global, loaded: &[Linear]) -> Result<Vec<Linear>, NoMemory>
     ensures { IfOk result (λ v. v.items ≡ loaded.now) }
 {
@@ -122,7 +123,7 @@ fn copies(alloc: Global, loaded: &[Linear]) -> Result<Vec<Linear>, NoMemory>
     Ok(list)
 }
 
-// An engine over constraints that are loaded.
+// Makes an engine over constraints that are loaded.
 fn loaded_engine(alloc: Global, vars: u32, loaded: &[Linear]) -> Result<Engine, NoMemory>
     requires { AreVarsWithin vars loaded.now }
     ensures { IfOk result (λ engine. engine ≡ started vars loaded.now) }
@@ -138,7 +139,7 @@ const VARS_A_TERM: usize = 256;
 // So many lists have the ids where variables share them.
 const SHARED_LISTS: u32 = 1 << 18;
 
-// How many variables engines are over: all, where that is not far more than may occur, else none.
+// Returns the number of variables that engines are over: all, unless that is far more than can occur; then none.
 fn most_of(vars: u32, loaded: &[Linear]) -> u32 {
     let mut terms: usize = 0;
     for constraint in loaded {
@@ -148,7 +149,8 @@ fn most_of(vars: u32, loaded: &[Linear]) -> u32 {
     if vars as usize <= limit { vars } else { 0 }
 }
 
-// An engine over loaded constraints, and how many of these stand there: all, or none where there are variables beyond its own.
+// Makes an engine over loaded constraints, and returns how many of these are live in it: all, or none if there are variables beyond its
+// own.
 fn first_engine(
     alloc: Global,
     vars: u32,
@@ -168,7 +170,8 @@ fn first_engine(
 }
 
 impl Database {
-    /// The database of loaded constraints, whose ids are 1, 2, .., over `original` variables of a problem and fresh ones up to `vars`.
+    /// Makes the database of loaded constraints, whose ids are 1, 2, .., over `original` variables of a problem and fresh ones up to
+    /// `vars`.
     pub fn new(
         alloc: Global,
         original: u32,
@@ -203,7 +206,7 @@ impl Database {
         })
     }
 
-    /// The constraint with an id.
+    /// Returns the constraint with an id, if it is live.
     pub fn constraint_at(&self, id: u64) -> Option<&Packed>
         // The constraint is the live one with the id, if there is one.
         ensures found { option_copied result ≡ constraint_at self.now.live id }
@@ -212,7 +215,7 @@ impl Database {
         slots::constraint_at(&self.slots, id)
     }
 
-    /// Whether a constraint stands under an id.
+    /// True if a constraint is live under the id.
     pub fn is_live(&self, id: u64) -> bool
         // The answer is true iff a constraint is live under the id.
         ensures { result ≡ is_live self.now.live id }
@@ -220,15 +223,15 @@ impl Database {
         self.constraint_at(id).is_some()
     }
 
-    /// Whether the constraint with an id was put out.
+    /// True if the constraint with the id is live and was put out.
     pub fn is_out(&self, id: u64) -> bool
-        // The answer is true iff that constraint was put out.
+        // The answer is true iff the constraint with the id was put out.
         ensures { result ≡ is_out self.now.live id }
     {
         slots::is_out(&self.slots, id)
     }
 
-    /// How many variables there are.
+    /// Returns the number of variables, fresh ones among them.
     pub fn vars(&self) -> u32
         ensures value { result ≡ self.now.vars }
         ensures sound { IsDatabase self.now }
@@ -236,7 +239,7 @@ impl Database {
         self.vars
     }
 
-    /// The id that the next constraint takes.
+    /// Returns the id that the next constraint gets.
     pub fn next(&self) -> u64
         ensures value { result ≡ self.now.next }
         ensures ordered { IsOrdered self.now }
@@ -244,14 +247,14 @@ impl Database {
         self.slots.len() as u64 + 1
     }
 
-    /// How many variables the problem has.
+    /// Returns the number of the problem's variables.
     pub fn original(&self) -> u32
         ensures { result ≡ self.now.original }
     {
         self.original
     }
 
-    // Whether propagation over constraints and all that stands reaches a conflict.
+    // True if propagation over the constraints of a list and all live ones reaches a conflict, by an engine that is made for this call.
     fn refutes_apart(&self, front: Constraints) -> Result<bool, NoMemory>
         ensures { IfOk result (TellsConflict (front ++ live_constraints self.now.live)) }
     {
@@ -259,7 +262,7 @@ impl Database {
         Ok(found)
     }
 
-    /// Whether propagation over one constraint or two and all that stands reaches a conflict.
+    /// True if propagation over one constraint or two and all live ones reaches a conflict.
     pub fn refutes(&mut self, more: &Linear, second: Option<&Linear>) -> Result<bool, NoMemory>
         requires more { HasVarsWithin self.old.vars more.now.terms }
         requires second { IfSome (option_copied second) (λ c. HasVarsWithin self.old.vars c.terms) }
@@ -284,7 +287,7 @@ impl Database {
         is_refuted_with(&mut self.engine, more, second)
     }
 
-    /// The same with one constraint, over those with the ids alone.
+    /// True if propagation over one constraint and those with the ids reaches a conflict.
     pub fn refutes_listed(&mut self, more: &Linear, ids: &[u64]) -> Result<bool, NoMemory>
         requires { HasVarsWithin self.old.vars more.now.terms }
         // The database is the same.
@@ -309,7 +312,7 @@ impl Database {
         self.idle.refutes(self.alloc, &self.slots, more, ids)
     }
 
-    /// Ids, among them those of all constraints that have the variable, which is a fresh one.
+    /// Returns ids, among them those of all live constraints that have the variable, which is a fresh one.
     pub fn ids_of(&self, var: Var) -> &[u32]
         requires { self.now.original < var }
         // The ids include those of all live constraints that have the fresh variable.
@@ -318,7 +321,7 @@ impl Database {
         index::ids_of(&self.named, var)
     }
 
-    /// Adds a constraint under the next id, which is the answer.
+    /// Adds a constraint under the next id, and returns the id.
     pub fn grow(&mut self, constraint: Linear) -> Result<u64, NoMemory>
         requires narrow { IsNarrow constraint }
         requires within { HasVarsWithin self.old.vars constraint.terms }
@@ -337,7 +340,7 @@ impl Database {
         Ok(id)
     }
 
-    // Takes the constraint with an id away. Its room is free again.
+    // Deletes the constraint with an id, and frees its place in the engine.
     fn remove_one(&mut self, id: u64)
         ensures { self.new ≡ reduced self.old (id ∷ []) }
     {
@@ -353,7 +356,7 @@ impl Database {
         }
     }
 
-    // Lists only ids whose constraints stand, where too many others are listed.
+    // Drops the ids of deleted constraints from the index, once these are too many.
     fn tidy(&mut self)
         ensures { self.new ≡ self.old }
     {
@@ -365,7 +368,7 @@ impl Database {
         }
     }
 
-    /// Takes the constraints with the ids away.
+    /// Deletes the constraints with the ids.
     pub fn remove(&mut self, ids: &[u64])
         // The constraints with the ids are not live any more.
         ensures { self.new ≡ reduced self.old ids.now }
@@ -384,7 +387,7 @@ impl Database {
         slots::mark(&mut self.slots, id);
     }
 
-    /// The allocator that it was made with.
+    /// Returns the allocator that the database was made with.
     pub fn alloc(&self) -> Global {
         self.alloc
     }

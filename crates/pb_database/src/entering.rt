@@ -21,7 +21,7 @@ use pb_norm::Linear;
 use pb_unit::Engine;
 use std::alloc::Global;
 
-// Adds a constraint, if there is memory. Its place takes four bytes: an engine has no memory for more places than that.
+// Adds a constraint, if there is memory, and returns its place in four bytes: an engine has no memory for more places than that.
 fn add_short(engine: &mut Engine, constraint: &Linear) -> Option<u32>
     requires { HasVarsWithin engine.old.vars constraint.now.terms }
     ensures stands { IfSome result (λ place. IsFree engine.old place × (engine.new ≡ added place constraint.now engine.old)) }
@@ -37,7 +37,7 @@ fn add_short(engine: &mut Engine, constraint: &Linear) -> Option<u32>
     Some(place as u32)
 }
 
-// Has the constraint of the next slot stand in the engine, if it has one and there is memory.
+// Makes the constraint of the next slot live in the engine, if it has one and there is memory.
 fn enter_next(alloc: Global, engine: &mut Engine, slots: &mut Vec<Slot>, next: usize) -> bool
     requires known { next < length slots.old.items }
     requires within { AreWithin engine.old.vars slots.old.items }
@@ -59,7 +59,7 @@ fn enter_next(alloc: Global, engine: &mut Engine, slots: &mut Vec<Slot>, next: u
     true
 }
 
-/// Has the constraints of all slots stand in the engine, in which those of the first ones do, if there is memory.
+/// Makes the constraints of all slots live in the engine, in which those of the first ones are, if there is memory.
 pub(crate) fn enter_rest(
     alloc: Global,
     engine: &mut Engine,
@@ -83,7 +83,7 @@ pub(crate) fn enter_rest(
     true
 }
 
-/// Takes the constraint with an id out of the engine, where it stands there, at its place.
+/// Deletes the constraint with an id from the engine, if it is live there.
 pub(crate) fn leave(engine: &mut Engine, entered: usize, id: u64, place: u64)
     ensures { (vars : ℕ) (before after : List Slot) → LeavesSlot before id place after → IsMirrored vars (take entered before) engine.old → IsMirrored vars (take entered after) engine.new }
 {

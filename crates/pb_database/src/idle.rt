@@ -17,7 +17,7 @@ use pb_unit::Engine;
 use std::alloc::Global;
 use std::marker::Model;
 
-/// An engine over so many variables in which nothing stands between calls, once it is needed.
+/// An engine over so many variables that is empty between calls, made when it is first needed.
 #[derive(Drop)]
 pub(crate) struct Idle {
     vars: u32,
@@ -35,7 +35,7 @@ impl Model for Idle {
     ghost invariant = { λ i. IfSome i.engine (IsIdle i.vars) };
 }
 
-/// An engine in which nothing stands.
+/// Makes an engine without constraints.
 pub(crate) fn idle_engine(alloc: Global, vars: u32) -> Result<Engine, NoMemory>
     ensures { IfOk result (λ engine. engine ≡ started vars []) }
 {
@@ -43,14 +43,14 @@ pub(crate) fn idle_engine(alloc: Global, vars: u32) -> Result<Engine, NoMemory>
 }
 
 impl Idle {
-    /// None is needed yet.
+    /// Starts without an engine.
     pub(crate) fn new(vars: u32) -> Idle
         ensures { result ≡ vars }
     {
         Idle { vars, engine: None }
     }
 
-    // Hands out the engine, or a new one where there is none.
+    // Returns the engine, or a new one if there is none.
     fn take(&mut self, alloc: Global) -> Result<Engine, NoMemory>
         ensures same { self.new ≡ self.old }
         ensures idle { IfOk result (IsIdle self.old) }
@@ -61,7 +61,7 @@ impl Idle {
         }
     }
 
-    /// Whether propagation over a constraint and those with the ids reaches a conflict.
+    /// True if propagation over a constraint and those with the ids reaches a conflict. The engine is empty again afterwards.
     pub(crate) fn refutes(
         &mut self,
         alloc: Global,

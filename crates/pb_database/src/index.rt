@@ -20,7 +20,8 @@ use pb_unit::newest_that;
 use std::alloc::Global;
 use std::marker::Model;
 
-/// The ids that are listed for a variable, in the order in which they came. They take four bytes each: there is no memory for more slots than that.
+/// The ids that are listed for a variable, in the order in which they came. They take four bytes each: there is no memory for more slots
+/// than that.
 #[derive(Drop)]
 pub(crate) struct Named {
     items: Vec<u32>,
@@ -34,12 +35,12 @@ impl Model for Named {
     ghost view = { λ n. n.items.items };
 }
 
-// Whether an id is older than the newest ones. Ids come ascending, so one look at the eighth newest tells it; nothing is true by this.
+// True if the id is older than the eight newest: ids come ascending, so one look at the eighth newest decides. No contract depends on it.
 fn is_older(items: &[u32], id: u32) -> bool {
     items.len() > 8 && items[items.len() - 8] > id
 }
 
-// Where an id is among the newest, if it is.
+// Returns the index of an id among the newest, if it is one of them.
 fn newest_at(items: &[u32], id: u32) -> Option<usize>
     ensures below { IfSome result (λ i. i < length items.now) }
     ensures at { IfSome result (λ i. (d : ℕ) → slice_index_or items.now i d ≡ id) }
@@ -50,8 +51,8 @@ fn newest_at(items: &[u32], id: u32) -> Option<usize>
     newest_that(items, |item| *item == id)
 }
 
-// Gives room back where ids take less than a quarter of it: while a sum is derived, a variable has far more constraints than after it.
-// Nothing is true by this.
+// Gives memory back if ids take less than a quarter of it: while a sum is derived, a variable has far more constraints than after it. No
+// contract depends on it.
 fn fit(items: &mut Vec<u32>)
     ensures { items.new.items ≡ items.old.items }
 {
@@ -63,7 +64,7 @@ fn fit(items: &mut Vec<u32>)
 }
 
 impl Named {
-    // One more id, if there is memory.
+    // Appends an id, if there is memory.
     fn push(&mut self, id: u64) -> Result<(), NoMemory>
         ensures ok { OnOk result (self.new ≡ self.old ++ id ∷ []) }
         ensures err { OnErr result (self.new ≡ self.old) }
@@ -75,7 +76,7 @@ impl Named {
         Ok(())
     }
 
-    // Takes an id out, where it is among the newest. Whether it was.
+    // Removes an id that is among the newest, and returns whether it was.
     fn take(&mut self, id: u64) -> bool
         ensures { (k : ℕ) → (k ≡ id → ⊥) → Contains self.old k → Contains self.new k }
     {
@@ -92,7 +93,7 @@ impl Named {
         }
     }
 
-    // Lists only ids whose constraints stand.
+    // Drops ids whose constraints are not live.
     fn sweep(&mut self, slots: &[Slot])
         ensures { self.new ≡ filter (λ id. is_some (slot_of slots.now id).constraint) self.old }
     {
@@ -100,6 +101,7 @@ impl Named {
         fit(&mut self.items);
     }
 
+    // Returns the ids in the order in which they came.
     fn as_slice(&self) -> &[u32]
         ensures { result.now ≡ self.now }
     {
@@ -107,7 +109,7 @@ impl Named {
     }
 }
 
-/// Empty lists, one for each of so many variables.
+/// Makes empty lists, one for each of so many variables.
 pub(crate) fn empty(alloc: Global, vars: u32) -> Result<Vec<Named>, NoMemory>
     ensures size { IfOk result (λ v. length v.items ≡ vars + 1) }
 {
@@ -121,7 +123,7 @@ pub(crate) fn empty(alloc: Global, vars: u32) -> Result<Vec<Named>, NoMemory>
     Ok(lists)
 }
 
-// The number of the list for a variable, where there are so many lists.
+// Returns the index of the list for a variable; variables share lists if there are fewer of these.
 fn number_in(count: usize, var: u32) -> usize
     requires { 0 < count }
     ensures value { result ≡ var % count }
@@ -131,7 +133,7 @@ fn number_in(count: usize, var: u32) -> usize
     if var < count { var } else { var % count }
 }
 
-// One more id in the list of a number, if there is memory.
+// Appends an id to the list of a number, if there is memory, and returns whether there was.
 fn append(lists: &mut Vec<Named>, number: usize, id: u64) -> bool
     requires { number < length lists.old.items }
     ensures kept { KeepsIds lists.old.items lists.new.items }
@@ -143,7 +145,7 @@ fn append(lists: &mut Vec<Named>, number: usize, id: u64) -> bool
     }
 }
 
-// One more id for a variable, if it is fresh and there is memory.
+// Lists an id for a variable, if it is fresh. False if memory runs out.
 fn enter_one(lists: &mut Vec<Named>, original: u32, var: u32, id: u64) -> bool
     requires { 0 < length lists.old.items }
     ensures kept { KeepsIds lists.old.items lists.new.items }
@@ -155,7 +157,7 @@ fn enter_one(lists: &mut Vec<Named>, original: u32, var: u32, id: u64) -> bool
     append(lists, number_in(lists.len(), var), id)
 }
 
-/// One more id for the variables of terms that are beyond the original ones, if there is memory.
+/// Lists an id for each fresh variable of terms. False if memory runs out.
 pub(crate) fn enter(lists: &mut Vec<Named>, original: u32, terms: &[Term], id: u64) -> bool
     requires { 0 < length lists.old.items }
     ensures kept { KeepsIds lists.old.items lists.new.items }
@@ -169,7 +171,7 @@ pub(crate) fn enter(lists: &mut Vec<Named>, original: u32, terms: &[Term], id: u
     true
 }
 
-// Takes an id out of the list of a number, where it is among the newest there. Whether it was.
+// Removes an id from the list of a number, if it is among the newest there, and returns whether it was.
 fn take_one(lists: &mut Vec<Named>, number: usize, id: u64) -> bool
     ensures { LosesId id lists.old.items lists.new.items }
 {
@@ -179,7 +181,7 @@ fn take_one(lists: &mut Vec<Named>, number: usize, id: u64) -> bool
     lists[number].take(id)
 }
 
-// Takes an id out of the list of a variable, where that is fresh and the id is among the newest there. Whether it is left.
+// Removes an id from the list of a variable, if that is fresh and the id among the newest. True if the id stays listed.
 fn leave_one(lists: &mut Vec<Named>, original: u32, var: u32, id: u64) -> bool
     requires { 0 < length lists.old.items }
     ensures { LosesId id lists.old.items lists.new.items }
@@ -191,8 +193,7 @@ fn leave_one(lists: &mut Vec<Named>, original: u32, var: u32, id: u64) -> bool
     !take_one(lists, number, id)
 }
 
-/// Takes an id out of the lists of the variables of items that are beyond the original ones, where it is among the newest there.
-/// In how many it is left.
+/// Removes an id from the lists of the fresh variables of items, where it is among the newest, and returns in how many it stays.
 pub(crate) fn leave<T, F: Fn(&T) -> u32>(
     lists: &mut Vec<Named>,
     original: u32,
@@ -213,7 +214,7 @@ pub(crate) fn leave<T, F: Fn(&T) -> u32>(
     left
 }
 
-// Lists only ids whose constraints stand.
+// Drops ids whose constraints are not live from all lists.
 fn sweep(lists: &mut [Named], slots: &[Slot])
     ensures { (v : ℕ) → ids_at lists.new v ≡ filter (λ id. is_some (slot_of slots.now id).constraint) (ids_at lists.old v) }
 {
@@ -222,7 +223,7 @@ fn sweep(lists: &mut [Named], slots: &[Slot])
     }
 }
 
-/// How many lists there are, and ids in them.
+/// Returns the number of lists, and of the ids in them, added up: the work of a sweep.
 pub(crate) fn len(lists: &[Named]) -> usize {
     let mut count = lists.len();
     for ids in lists {
@@ -231,7 +232,7 @@ pub(crate) fn len(lists: &[Named]) -> usize {
     count
 }
 
-/// Lists only ids whose constraints stand, where that is due.
+/// Drops ids whose constraints are not live from all lists, if that is worth it.
 pub(crate) fn sweep_if(due: bool, lists: &mut Vec<Named>, slots: &[Slot])
     ensures { (original : ℕ) → IsIndexed original slots.now lists.old.items → IsIndexed original slots.now lists.new.items }
 {
@@ -240,7 +241,7 @@ pub(crate) fn sweep_if(due: bool, lists: &mut Vec<Named>, slots: &[Slot])
     }
 }
 
-/// The ids that are listed for a variable.
+/// Returns the ids that are listed for a variable.
 pub(crate) fn ids_of(lists: &[Named], var: Var) -> &[u32]
     requires { 0 < length lists.now }
     ensures { result.now ≡ ids_of lists.now var }

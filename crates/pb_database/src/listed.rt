@@ -1,4 +1,4 @@
-//! Propagation over listed constraints alone, in an engine where nothing else stands.
+//! Propagation over listed constraints alone, in an engine that has no others.
 ghost use Rattle.std.specs.Prelude.{◌≡◌, ◌∷◌, ◌++◌, [], List, IfOk};
 ghost use Rattle.std.specs.Bool.{OnTrue};
 ghost use Rattle.std.specs.Option.{option_to_list};
@@ -14,7 +14,7 @@ use pb_norm::Linear;
 use pb_unit::Engine;
 use std::alloc::Global;
 
-// Adds a constraint to an engine, and its place to a list, if there is memory.
+// Adds a constraint to an engine, and its place to a list, if there is memory, and returns whether there was.
 fn join(engine: &mut Engine, places: &mut Vec<u64>, constraint: &Linear) -> bool
     requires within { HasVarsWithin engine.old.vars constraint.now.terms }
     requires covered { IsCovered engine.old.vars places.old.items engine.old }
@@ -33,7 +33,7 @@ fn join(engine: &mut Engine, places: &mut Vec<u64>, constraint: &Linear) -> bool
     }
 }
 
-// Adds the constraint with an id, if it stands and there is memory.
+// Adds the constraint with an id, if it is live and there is memory.
 fn join_at(
     alloc: Global,
     engine: &mut Engine,
@@ -76,7 +76,7 @@ fn join_listed(
     true
 }
 
-// Takes all constraints away, the newest first: their occurrences are the newest too.
+// Deletes all constraints that were added, the newest first: their occurrences are the newest too.
 fn leave(engine: &mut Engine, places: &mut Vec<u64>)
     requires covered { IsCovered engine.old.vars places.old.items engine.old }
     ensures idle { IsIdle engine.old.vars engine.new }
@@ -108,7 +108,7 @@ fn join_all(
     join_listed(alloc, engine, places, slots, ids)
 }
 
-/// Whether propagation over a constraint and those with the ids reaches a conflict. They are taken away again.
+/// True if propagation over a constraint and those with the ids reaches a conflict. The constraints are deleted from the engine again.
 pub(crate) fn is_refuted_by(
     alloc: Global,
     engine: &mut Engine,

@@ -6,7 +6,7 @@ ghost use Rattle.pb_database.specs.inner.Indexed.{IsLeast, IsNaming, lesser};
 use crate::database::Database;
 use pb_base::Var;
 
-// The id, or what was found before where that is not greater.
+// Returns the lesser of two ids, of which the first may be missing.
 fn lesser_id(best: Option<u64>, id: u64) -> Option<u64>
     ensures { result ≡ lesser best id }
 {
@@ -17,7 +17,7 @@ fn lesser_id(best: Option<u64>, id: u64) -> Option<u64>
 }
 
 impl Database {
-    // Whether the constraint with an id has the variable.
+    // True if the constraint with an id is live and has the variable.
     fn names(&self, id: u64, var: Var) -> bool
         ensures { result ≡ names_at self.now.live var id }
     {
@@ -27,7 +27,7 @@ impl Database {
         }
     }
 
-    // The least id from a number on whose constraint has the variable, where one more is looked at.
+    // Returns the least id from `from` on whose constraint has the variable, of those seen so far and one more.
     fn earlier_naming(&self, best: Option<u64>, id: u64, var: Var, from: u64) -> Option<u64>
         ensures { (ids : List ℕ) → IsLeast (IsNaming self.now.live var from) ids best → IsLeast (IsNaming self.now.live var from) (ids ++ id ∷ []) result }
     {
@@ -40,7 +40,7 @@ impl Database {
         lesser_id(best, id)
     }
 
-    // The same as below, by a walk over all ids.
+    // Returns the least id from `from` on whose constraint has the variable, by a walk over all ids.
     fn walked_naming(&self, var: Var, from: u64) -> Option<u64>
         ensures { MatchOption result (IsUnnamed self.now var from) (IsFirstNaming self.now.live var from) }
     {
@@ -52,7 +52,8 @@ impl Database {
         None
     }
 
-    /// The least id, from a number on, whose constraint has the variable, or None where none has it. Only fresh variables have lists of ids.
+    /// Returns the least id from `from` on whose constraint has the variable, or None if none has it. Only fresh variables have lists of
+    /// ids.
     pub fn naming(&self, var: Var, from: u64) -> Option<u64>
         // The id is the least one, from the number on, whose constraint has the variable; there is none iff none has it.
         ensures { MatchOption result (IsUnnamed self.now var from) (IsFirstNaming self.now.live var from) }

@@ -20,8 +20,8 @@ use pb_operations::implies;
 use std::alloc::{AllocError, Global};
 use std::marker::Model;
 
-/// A constraint as it is kept: a clause of two, three or four literals, which take four bytes each, or another sum, in memory of its own: of terms of eight bytes
-/// where its numbers take 32 bits, or as it came.
+/// The stored form of a constraint: a clause of two, three or four literals, which take four bytes each, or another sum, in memory of its
+/// own: of terms of eight bytes if its numbers take 32 bits, or as it came.
 #[derive(Drop)]
 pub(crate) enum Form {
     Two([ShortLit; 2]),
@@ -49,7 +49,7 @@ impl Model for Packed {
     ghost invariant = { λ p. IsLinear (constraint_in p.form.value) };
 }
 
-// Whether all coefficients are 1.
+// True only if all coefficients are 1.
 fn are_units(terms: &[Term]) -> bool
     ensures { IsTrue result → weights terms.now ≡ map (λ t. unit t.lit) terms.now }
 {
@@ -61,35 +61,35 @@ fn are_units(terms: &[Term]) -> bool
     true
 }
 
-// Whether some term is of the variable.
+// True if some term is of the variable.
 fn has_var(terms: &[Term], var: Var) -> bool
     ensures { result ≡ list_any (on_weight (is_of var)) terms.now }
 {
     terms.iter().any(|term| term.lit.var == var)
 }
 
-// Whether some literal is of the variable.
+// True if some literal is of the variable.
 fn has_lit(lits: &[ShortLit], var: Var) -> bool
     ensures { result ≡ list_any (λ l. l.var == var) lits.now }
 {
     lits.iter().any(|lit| lit.get().var == var)
 }
 
-// Whether a literal is among others.
+// True if the literal is among the others.
 fn is_among(lits: &[Lit], lit: &Lit) -> bool
     ensures { result ≡ is_among lits.now lit.now }
 {
     lits.contains(lit)
 }
 
-// Whether each literal is among others.
+// True if each literal is among the others.
 fn are_among(lits: &[ShortLit], others: &[Lit]) -> bool
     ensures { result ≡ list_all (is_among others.now) lits.now }
 {
     lits.iter().all(|lit| is_among(others, &lit.get()))
 }
 
-// Takes an id out of the lists of the fresh variables of literals, where it is among the newest there. In how many it is left.
+// Removes an id from the lists of the fresh variables of literals, where it is among the newest, and returns in how many it stays.
 fn leave_lits(lists: &mut Vec<Named>, original: u32, lits: &[ShortLit], id: u64) -> usize
     requires { 0 < length lists.old.items }
     ensures { LosesId id lists.old.items lists.new.items }
@@ -97,7 +97,7 @@ fn leave_lits(lists: &mut Vec<Named>, original: u32, lits: &[ShortLit], id: u64)
     index::leave(lists, original, lits, id, |lit| lit.get().index())
 }
 
-// The terms of literals, each with the coefficient 1.
+// Returns the terms of literals, each with the coefficient 1.
 fn units(alloc: Global, lits: &[ShortLit]) -> Result<Vec<Term>, AllocError>
     ensures { IfOk result (λ v. v.items ≡ map unit_term lits.now) }
 {
@@ -106,7 +106,7 @@ fn units(alloc: Global, lits: &[ShortLit]) -> Result<Vec<Term>, AllocError>
         .collect(alloc)
 }
 
-// The clause of literals.
+// Returns the constraint of a clause.
 fn clause(alloc: Global, lits: &[ShortLit]) -> Result<Linear, NoMemory>
     requires { IsLinear (clause_of lits.now) }
     ensures { IfOk result (λ c. c ≡ clause_of lits.now) }
@@ -115,7 +115,7 @@ fn clause(alloc: Global, lits: &[ShortLit]) -> Result<Linear, NoMemory>
     Ok(Linear::from_parts(terms, 1))
 }
 
-// The form of a clause of few literals.
+// Returns the stored form of terms with the coefficient 1, if they are two, three or four.
 fn short(terms: &[Term]) -> Option<Form>
     ensures { IfSome result (λ form. constraint_in form ≡ clause_of (map (λ t. t.lit) terms.now)) }
 {
@@ -136,7 +136,7 @@ fn short(terms: &[Term]) -> Option<Form>
     }
 }
 
-// The form of a constraint that is a clause of few literals.
+// Returns the stored form of a constraint that is a clause of few literals, and None of any other.
 fn short_form(constraint: &Linear) -> Option<Form>
     ensures { IfSome result (λ form. constraint_in form ≡ constraint.now) }
 {
@@ -147,7 +147,7 @@ fn short_form(constraint: &Linear) -> Option<Form>
     short(terms)
 }
 
-// The form of a constraint that is no clause of few literals.
+// Returns the stored form of a constraint that is no clause of few literals.
 fn long_form(alloc: Global, constraint: Linear) -> Result<Form, NoMemory>
     ensures { IfOk result (λ form. constraint_in form ≡ constraint) }
 {
@@ -163,7 +163,7 @@ fn long_form(alloc: Global, constraint: Linear) -> Result<Form, NoMemory>
     }
 }
 
-// The form of a constraint.
+// Returns the stored form of a constraint.
 fn form_of(alloc: Global, constraint: Linear) -> Result<Form, NoMemory>
     ensures { IfOk result (λ form. constraint_in form ≡ constraint) }
 {
@@ -174,7 +174,7 @@ fn form_of(alloc: Global, constraint: Linear) -> Result<Form, NoMemory>
 }
 
 impl Packed {
-    /// A constraint in little memory.
+    /// Stores a constraint in little memory.
     pub(crate) fn new(alloc: Global, constraint: Linear) -> Result<Packed, NoMemory>
         ensures { IfOk result (λ packed. packed ≡ constraint) }
     {
@@ -184,7 +184,7 @@ impl Packed {
         Ok(Packed { form })
     }
 
-    /// The constraint.
+    /// Returns the constraint, written out.
     pub fn read(&self, alloc: Global) -> Result<Linear, NoMemory>
         ensures { IfOk result (λ c. c ≡ self.now) }
     {
@@ -197,7 +197,7 @@ impl Packed {
         }
     }
 
-    /// Whether it has the variable.
+    /// True if the constraint has the variable.
     pub(crate) fn names(&self, var: Var) -> bool
         ensures { result ≡ list_any (is_of var) self.now.terms }
     {
@@ -210,7 +210,7 @@ impl Packed {
         }
     }
 
-    /// Whether it is a clause of few literals, each of which is among others.
+    /// True only if the constraint is a clause of few literals, each of which is among the others.
     fn is_part_of(&self, others: &[Lit]) -> bool
         ensures { IsTrue result → implies self.now (clause_form others.now) ≡ true }
     {
@@ -223,7 +223,8 @@ impl Packed {
         }
     }
 
-    /// Whether a clause follows from it term by term. Where its literals are among the clause's, as for each clause that is made, that is so.
+    /// True if the constraint implies a clause term by term. If its literals are among the clause's, as of each clause that an encoding
+    /// puts out, nothing is built to see it.
     pub fn gives(&self, alloc: Global, clause: &Clause) -> Result<bool, NoMemory>
         ensures { IfOk result (λ given. given ≡ implies self.now (clause_form clause.now)) }
     {
@@ -235,7 +236,7 @@ impl Packed {
         Ok(implies(&constraint, &form))
     }
 
-    /// Takes an id out of the lists of its variables beyond the original ones, where it is among the newest there. In how many it is left.
+    /// Removes an id from the lists of the constraint's fresh variables, where it is among the newest, and returns in how many it stays.
     pub(crate) fn unlist(&self, lists: &mut Vec<Named>, original: u32, id: u64) -> usize
         requires { 0 < length lists.old.items }
         ensures { LosesId id lists.old.items lists.new.items }

@@ -11,7 +11,7 @@ use pb_base::NoMemory;
 use pb_norm::Linear;
 use pb_unit::{Engine, Outcome};
 
-/// Whether propagation found a conflict.
+/// True if propagation found a conflict.
 pub(crate) fn is_conflict(outcome: Outcome) -> bool
     ensures { result ≡ is_conflict outcome }
 {
@@ -21,7 +21,7 @@ pub(crate) fn is_conflict(outcome: Outcome) -> bool
     }
 }
 
-// Whether propagation over what stands and one more constraint reaches a conflict. The constraint is taken away again.
+// True if propagation over the engine's constraints and one more reaches a conflict. The constraint is deleted again.
 fn is_refuted_with_one(engine: &mut Engine, more: &Linear) -> Result<bool, NoMemory>
     requires within { HasVarsWithin engine.old.vars more.now.terms }
     ensures kept { KeepsEngine engine.old engine.new }
@@ -33,7 +33,7 @@ fn is_refuted_with_one(engine: &mut Engine, more: &Linear) -> Result<bool, NoMem
     Ok(is_conflict(outcome))
 }
 
-// The same with two constraints.
+// True if propagation over the engine's constraints and two more reaches a conflict. The two are deleted again.
 fn is_refuted_with_both(
     engine: &mut Engine,
     first: &Linear,
@@ -50,7 +50,7 @@ fn is_refuted_with_both(
     found
 }
 
-/// The same with one constraint or two.
+/// True if propagation over the engine's constraints and one or two more reaches a conflict. These are deleted again.
 pub(crate) fn is_refuted_with(
     engine: &mut Engine,
     more: &Linear,

@@ -20,7 +20,7 @@ const FEW: usize = 8;
 
 const MOST_ROUNDS: usize = 8;
 
-// Shows constraints, as long as each has room enough.
+// Visits constraints, up to the first that is conflicting. True if none is.
 fn show_others(rounds: &mut Rounds, constraints: &[Linear]) -> bool
     requires { AreVarsWithin rounds.old.vars constraints.now }
     ensures vars { rounds.new.vars ≡ rounds.old.vars }
@@ -34,7 +34,7 @@ fn show_others(rounds: &mut Rounds, constraints: &[Linear]) -> bool
     true
 }
 
-// The same with a constraint before them.
+// Visits a constraint and then the others, up to the first that is conflicting. True if none is.
 fn show_all(rounds: &mut Rounds, more: &Linear, constraints: &[Linear]) -> bool
     requires more { HasVarsWithin rounds.old.vars more.now.terms }
     requires within { AreVarsWithin rounds.old.vars constraints.now }
@@ -47,7 +47,7 @@ fn show_all(rounds: &mut Rounds, more: &Linear, constraints: &[Linear]) -> bool
     show_others(rounds, constraints)
 }
 
-// Whether propagation over a constraint and others reaches a conflict, if that is seen in few rounds.
+// Returns whether propagation over a constraint and others reaches a conflict, and None if that is not seen in few rounds.
 fn seen_in_rounds(rounds: &mut Rounds, more: &Linear, constraints: &[Linear]) -> Option<bool>
     requires more { HasVarsWithin rounds.old.vars more.now.terms }
     requires within { AreVarsWithin rounds.old.vars constraints.now }
@@ -67,7 +67,8 @@ fn seen_in_rounds(rounds: &mut Rounds, more: &Linear, constraints: &[Linear]) ->
     None
 }
 
-/// Whether propagation over a constraint and those with the ids reaches a conflict, if these are few and that is seen in few rounds.
+/// Returns whether propagation over a constraint and those with the ids reaches a conflict, and None if the ids are many or it is not
+/// seen in few rounds.
 pub(crate) fn is_refuted_by_few(
     alloc: Global,
     rounds: &mut Rounds,

@@ -23,7 +23,7 @@ impl Model for ShortLit {
 }
 
 impl ShortLit {
-    /// A literal in four bytes.
+    /// Packs a literal into four bytes.
     pub(crate) fn of(lit: &Lit) -> ShortLit
         ensures { result ≡ lit.now }
     {
@@ -33,7 +33,7 @@ impl ShortLit {
         }
     }
 
-    /// The literal.
+    /// Returns the literal.
     pub(crate) fn get(&self) -> Lit
         ensures { result ≡ self.now }
     {

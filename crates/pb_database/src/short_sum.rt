@@ -27,7 +27,7 @@ impl Model for ShortSum {
     ghost invariant = { λ s. IsLinear (record { terms = s.terms.items; degree = s.degree }) };
 }
 
-// The terms in eight bytes each, if all coefficients can be told so.
+// Returns the terms in eight bytes each, if all coefficients take 32 bits.
 fn short_terms(alloc: Global, terms: &[Term]) -> Result<Option<Vec<ShortTerm>>, NoMemory>
     ensures { IfOk result (λ found. IfSome found (λ v. v.items ≡ weights terms.now)) }
 {
@@ -41,7 +41,7 @@ fn short_terms(alloc: Global, terms: &[Term]) -> Result<Option<Vec<ShortTerm>>, 
     Ok(Some(list))
 }
 
-// The terms as they came.
+// Returns the terms as they came.
 fn wide_terms(alloc: Global, terms: &[ShortTerm]) -> Result<Vec<Term>, NoMemory>
     ensures { IfOk result (λ v. v.items ≡ terms_of terms.now) }
 {
@@ -53,7 +53,7 @@ fn wide_terms(alloc: Global, terms: &[ShortTerm]) -> Result<Vec<Term>, NoMemory>
 }
 
 impl ShortSum {
-    /// A constraint in little memory, if its coefficients and its degree can be told so.
+    /// Packs a constraint into little memory, if its coefficients and its degree take 32 bits each.
     pub(crate) fn of(alloc: Global, constraint: &Linear) -> Result<Option<ShortSum>, NoMemory>
         ensures { IfOk result (λ found. IfSome found (λ sum. sum ≡ constraint.now)) }
     {
@@ -70,7 +70,7 @@ impl ShortSum {
         }
     }
 
-    /// The constraint.
+    /// Returns the constraint, written out.
     pub(crate) fn read(&self, alloc: Global) -> Result<Linear, NoMemory>
         ensures { IfOk result (λ c. c ≡ self.now) }
     {
@@ -78,14 +78,14 @@ impl ShortSum {
         Ok(Linear::from_parts(terms, self.degree as u128))
     }
 
-    /// Its terms.
+    /// Returns the terms, in eight bytes each.
     pub(crate) fn terms(&self) -> &[ShortTerm]
         ensures { result.now ≡ self.now.terms }
     {
         self.terms.as_slice()
     }
 
-    /// Whether some term is of the variable.
+    /// True if some term is of the variable.
     pub(crate) fn has_var(&self, var: Var) -> bool
         ensures { result ≡ list_any (is_of var) self.now.terms }
     {

@@ -22,7 +22,7 @@ impl Model for ShortTerm {
 }
 
 impl ShortTerm {
-    /// A term in eight bytes, if its coefficient can be told so.
+    /// Packs a term into eight bytes, if its coefficient takes 32 bits.
     pub(crate) fn of(term: &Term) -> Option<ShortTerm>
         ensures { IfSome result (λ t. t ≡ weighted term.now) }
     {
@@ -36,14 +36,14 @@ impl ShortTerm {
         })
     }
 
-    /// The term.
+    /// Returns the term.
     pub(crate) fn get(&self) -> Term
         ensures { result ≡ term_of self.now }
     {
         Term::weighing(self.coef as u128, self.lit.get())
     }
 
-    /// The variable of its literal.
+    /// Returns the variable of the term's literal.
     pub(crate) fn var(&self) -> Var
         ensures { result ≡ self.now.lit.var }
     {

@@ -9,7 +9,7 @@ use pb_norm::Linear;
 use std::alloc::Global;
 use std::mem;
 
-/// The constraint of an id, if it stands, its place in the engine, and whether it was put out: two words.
+/// The constraint of an id, if it is live, its place in the engine, and if it was put out: two words.
 #[derive(Drop)]
 pub(crate) struct Slot {
     pub(crate) constraint: Option<Packed>,
@@ -17,7 +17,7 @@ pub(crate) struct Slot {
     pub(crate) out: bool,
 }
 
-/// One more slot, whose constraint is at the place, if there is memory.
+/// Adds a slot, whose constraint is at the place, if there is memory.
 pub(crate) fn push(
     slots: &mut Vec<Slot>,
     alloc: Global,
@@ -39,7 +39,7 @@ pub(crate) fn push(
     Ok(())
 }
 
-/// The constraint with an id.
+/// Returns the constraint with an id, if it is live.
 pub(crate) fn constraint_at(slots: &[Slot], id: u64) -> Option<&Packed>
     ensures { option_copied result ≡ (slot_of slots.now id).constraint }
 {
@@ -55,7 +55,7 @@ pub(crate) fn constraint_at(slots: &[Slot], id: u64) -> Option<&Packed>
     }
 }
 
-// Adds the constraint with an id to a list, if it stands.
+// Adds the constraint with an id to a list, if it is live.
 fn push_at(alloc: Global, slots: &[Slot], id: u64, list: &mut Vec<Linear>) -> Result<(), NoMemory>
     ensures { OnOk result (list.new.items ≡ list.old.items ++ option_to_list (slot_of slots.now id).constraint) }
 {
@@ -69,7 +69,7 @@ fn push_at(alloc: Global, slots: &[Slot], id: u64, list: &mut Vec<Linear>) -> Re
     }
 }
 
-/// The constraints with the ids, as far as they stand.
+/// Returns the constraints with the ids, as far as they are live.
 pub(crate) fn listed(alloc: Global, slots: &[Slot], ids: &[u64]) -> Result<Vec<Linear>, NoMemory>
     ensures { IfOk result (λ list. list.items ≡ listed_slots slots.now ids.now) }
 {
@@ -80,14 +80,14 @@ pub(crate) fn listed(alloc: Global, slots: &[Slot], ids: &[u64]) -> Result<Vec<L
     Ok(list)
 }
 
-/// Whether a constraint stands under an id.
+/// True if a constraint is live under the id.
 pub(crate) fn stands(slots: &[Slot], id: u64) -> bool
     ensures { result ≡ is_some (slot_of slots.now id).constraint }
 {
     constraint_at(slots, id).is_some()
 }
 
-/// Whether the constraint with an id stands and was put out.
+/// True if the constraint with the id is live and was put out.
 pub(crate) fn is_out(slots: &[Slot], id: u64) -> bool
     ensures { result ≡ slot_is_out (slot_of slots.now id) }
 {
@@ -100,7 +100,7 @@ pub(crate) fn is_out(slots: &[Slot], id: u64) -> bool
     }
 }
 
-/// Takes the constraint with an id away, and hands out its slot.
+/// Deletes the constraint with an id, and returns its slot.
 pub(crate) fn take(slots: &mut Vec<Slot>, id: u64) -> Slot
     ensures after { slots.new.items ≡ slots_without slots.old.items id }
     ensures gone { result ≡ slot_of slots.old.items id }
@@ -116,7 +116,7 @@ pub(crate) fn take(slots: &mut Vec<Slot>, id: u64) -> Slot
     mem::replace(&mut slots[(id - 1) as usize], hole)
 }
 
-/// Notes the place of a slot's constraint.
+/// Notes the place of a slot's constraint in the engine.
 pub(crate) fn set_place(slots: &mut Vec<Slot>, index: usize, place: u32)
     requires { index < length slots.old.items }
     ensures { slots.new.items ≡ slots_placed slots.old.items index place }
@@ -124,7 +124,7 @@ pub(crate) fn set_place(slots: &mut Vec<Slot>, index: usize, place: u32)
     slots[index].place = place;
 }
 
-/// Marks the constraint with an id.
+/// Marks the constraint with an id as put out.
 pub(crate) fn mark(slots: &mut Vec<Slot>, id: u64)
     ensures { slots.new.items ≡ marked_slots slots.old.items id }
 {
