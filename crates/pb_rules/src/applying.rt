@@ -1,4 +1,4 @@
-//! Steps that change what stands.
+//! Steps that change which constraints are live.
 ghost use Rattle.std.specs.Prelude.{◌≡◌, List, Option, OnOk, OnErr, IfOk, IfErr};
 ghost use Rattle.std.specs.Option.{option_copied};
 ghost use Rattle.pb_base.specs.declared.literal.Lit.{Lit};
@@ -14,12 +14,12 @@ use pb_base::{Clause, Term};
 use pb_database::Database;
 use pb_steps::{PolOp, Set, Step};
 
-/// What an allowed step answers.
+/// The answer to a step that is allowed.
 #[derive(Clone, Copy)]
 pub enum Applied {
     /// A constraint joined under this id.
     Id(u64),
-    /// None joined.
+    /// No constraint joined.
     Done,
 }
 
@@ -84,7 +84,7 @@ fn add_redundant(
     }
 }
 
-// Takes constraints away.
+// Deletes constraints.
 fn delete(db: &mut Database, ids: &[u64]) -> Result<Applied, RuleFault>
     requires { IsSpelled (Del ids.now) }
     ensures allowed { (clause : Option (List Lit)) → OnOk result (Allowed db.old (Del ids.now) clause db.new) }
@@ -101,7 +101,7 @@ fn delete(db: &mut Database, ids: &[u64]) -> Result<Applied, RuleFault>
     }
 }
 
-// Puts a clause out.
+// Puts a clause out, as the next one of the CNF.
 fn put_out(db: &mut Database, id: u64, next: Option<&Clause>) -> Result<Applied, RuleFault>
     ensures allowed { OnOk result (Allowed db.old (Out id) (option_copied next.entry) db.new) }
     ensures given { IfOk result (λ a. a ≡ applied db.old (Out id)) }
@@ -117,8 +117,9 @@ fn put_out(db: &mut Database, id: u64, next: Option<&Clause>) -> Result<Applied,
     }
 }
 
-/// Takes a step of a rule where it is allowed (reverse unit propagation, Goldberg and Novikov 2003; redundance, Gocht and Nordström 2021;
-/// operations in postfix notation, Gocht et al. 2022). The next clause is what `out` has to give. After a fault the database is as it was.
+/// Applies a step of a rule if it is allowed (reverse unit propagation, Goldberg and Novikov 2003; redundance, Gocht and Nordström 2021;
+/// operations in postfix notation, Gocht et al. 2022). The next clause is the one that `out` has to give. After a fault the database is
+/// as it was.
 pub fn apply(db: &mut Database, step: &Step, next: Option<&Clause>) -> Result<Applied, RuleFault>
     requires rule { IsRule step.now }
     requires spelled { IsSpelled step.now }

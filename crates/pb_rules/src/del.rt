@@ -18,21 +18,21 @@ use pb_database::Database;
 use pb_steps::Denied;
 use std::collections::BTreeSet;
 
-// Whether nothing stands under an id, which may be taken away before.
+// True if no constraint is live under an id, which an id before it in the step may have deleted.
 fn is_gone(db: &Database, is_fresh: bool, id: u64) -> bool
     ensures { result ≡ (not is_fresh || not (is_live db.now.live id)) }
 {
     !is_fresh || !db.is_live(id)
 }
 
-// Whether ids ascend.
+// True only if ids ascend.
 fn ascend(ids: &[u64]) -> bool
     ensures { IsTrue result → AllPairs (λ i j. i < j) ids.now }
 {
     ids.is_sorted_by(|id, next| id < next)
 }
 
-// The first id that is gone once those before it are taken away.
+// Returns the first id that is not live once the constraints before it are deleted.
 fn first_gone(db: &Database, ids: &[u64]) -> Result<Option<u64>, NoMemory>
     ensures { IfOk result (λ found. found ≡ first_gone db.now.live ids.now) }
 {
@@ -50,7 +50,7 @@ fn first_gone(db: &Database, ids: &[u64]) -> Result<Option<u64>, NoMemory>
     Ok(None)
 }
 
-// The first id whose constraint was put out.
+// Returns the first id whose constraint was put out.
 fn first_out(db: &Database, ids: &[u64]) -> Option<u64>
     ensures { result ≡ find (is_out db.now.live) ids.now }
 {
@@ -62,7 +62,7 @@ fn first_out(db: &Database, ids: &[u64]) -> Option<u64>
     None
 }
 
-/// Tests whether the constraints with the ids may be taken away.
+/// Tests if the constraints with the ids may be deleted.
 pub(crate) fn test(db: &Database, ids: &[u64]) -> Result<(), RuleFault>
     requires { IsSpelled (Del ids.now) }
     ensures allowed { (clause : Option (List Lit)) → OnOk result (Allowed db.now (Del ids.now) clause (reduced db.now ids.now)) }

@@ -14,21 +14,21 @@ use pb_base::{NoMemory, Term};
 use pb_norm::{Linear, written};
 use std::alloc::{AllocError, Global};
 
-// Whether each term's variable is below the next one's.
+// True only if each term's variable is below the next one's.
 fn ascend(terms: &[Term]) -> bool
     ensures { IsTrue result → IsAscending (weights terms.now) }
 {
     terms.is_sorted_by(|term, next| term.lit.var < next.lit.var)
 }
 
-// Whether all coefficients are above 0.
+// True if all coefficients are above 0.
 fn are_positive(terms: &[Term]) -> bool
     ensures { result ≡ list_all (λ t. int_lt (pos 0) t.coef) terms.now }
 {
     terms.iter().all(|term| term.coef > 0)
 }
 
-// A term behind others.
+// Moves the first term after the others.
 fn turned(alloc: Global, first: &Term, others: &[Term]) -> Result<Vec<Term>, AllocError>
     ensures { IfOk result (λ ts. IsPermutation (first.now ∷ others.now) ts.items) }
 {
@@ -38,7 +38,7 @@ fn turned(alloc: Global, first: &Term, others: &[Term]) -> Result<Vec<Term>, All
     Ok(list)
 }
 
-// Whether a term's variable is beyond that of the last one of others.
+// True if the variable of the first term is above that of the last of the others.
 fn is_beyond(first: &Term, others: &[Term]) -> bool {
     match others.last() {
         Some(last) => first.lit.var > last.lit.var,
@@ -46,7 +46,7 @@ fn is_beyond(first: &Term, others: &[Term]) -> bool {
     }
 }
 
-// The terms once more. Where the first is that of a fresh variable, as in a line that gives it its meaning, it comes last.
+// Copies the terms. If the first is that of a fresh variable, as in a line that defines one, it comes last.
 fn copied(alloc: Global, terms: &[Term]) -> Result<Vec<Term>, AllocError>
     ensures { IfOk result (λ ts. IsPermutation terms.now ts.items) }
 {
@@ -62,7 +62,7 @@ fn copied(alloc: Global, terms: &[Term]) -> Result<Vec<Term>, AllocError>
     }
 }
 
-// Puts terms in the order of their variables. Whether each variable stands once.
+// Sorts terms by their variables. True only if each variable occurs once.
 fn put_in_order(terms: &mut Vec<Term>) -> bool
     ensures same { IsPermutation terms.old.items terms.new.items }
     ensures ascending { IsTrue result → IsAscending (weights terms.new.items) }
@@ -74,8 +74,8 @@ fn put_in_order(terms: &mut Vec<Term>) -> bool
     ascend(terms)
 }
 
-/// The constraint that terms and a right side write, in normal form. Where no coefficient has a sign and each variable stands
-/// once, as in the lines of derivations that are made, that is the terms in order.
+/// Returns the constraint that terms and a right side write, in normal form. If no coefficient has a sign and each variable occurs once,
+/// as in the lines of derivations that are made, that is the terms in order.
 pub(crate) fn form_of(alloc: Global, terms: &[Term], right: &i128) -> Result<Linear, NoMemory>
     requires { IsSlim terms.now right.now }
     ensures { IfOk result (λ c. c ≡ written terms.now right.now) }

@@ -14,7 +14,7 @@ use pb_base::Clause;
 use pb_database::Database;
 use pb_steps::Denied;
 
-/// Tests whether the constraint with an id gives the next clause.
+/// Tests if the constraint with an id implies the next clause.
 pub(crate) fn test(db: &Database, id: u64, next: Option<&Clause>) -> Result<(), RuleFault>
     ensures allowed { OnOk result (Allowed db.now (Out id) (option_copied next.entry) (marked db.now id)) }
     ensures fault { IfErr result (IsFault db.now (Out id) (option_copied next.entry)) }

@@ -24,7 +24,7 @@ use std::alloc::Global;
 
 // ---- what the operations name
 
-// The variable of an operation, where it is above a number.
+// Returns the variable of an operation, if it is above `vars`.
 fn op_above(vars: u32, op: &PolOp) -> Option<Var>
     ensures { result ≡ find (λ v. nat_lt vars v) (vars_of_op op.now) }
 {
@@ -36,7 +36,7 @@ fn op_above(vars: u32, op: &PolOp) -> Option<Var>
     if var.index() > vars { Some(var) } else { None }
 }
 
-// The first variable above a number.
+// Returns the first variable above `vars`.
 fn var_above(vars: u32, ops: &[PolOp]) -> Option<Var>
     ensures { result ≡ find (λ v. nat_lt vars v) (flat_map vars_of_op ops.now) }
 {
@@ -48,7 +48,7 @@ fn var_above(vars: u32, ops: &[PolOp]) -> Option<Var>
     None
 }
 
-// The id of an operation, where nothing stands under it.
+// Returns the id of an operation, if no constraint is live under it.
 fn op_gone(db: &Database, op: &PolOp) -> Option<u64>
     ensures { result ≡ find (λ id. not (is_live db.now.live id)) (ids_of_op op.now) }
 {
@@ -58,7 +58,7 @@ fn op_gone(db: &Database, op: &PolOp) -> Option<u64>
     }
 }
 
-// The first id under which nothing stands.
+// Returns the first id under which no constraint is live.
 fn id_gone(db: &Database, ops: &[PolOp]) -> Option<u64>
     ensures { result ≡ find (λ id. not (is_live db.now.live id)) (flat_map ids_of_op ops.now) }
 {
@@ -75,6 +75,7 @@ fn id_gone(db: &Database, ops: &[PolOp]) -> Option<u64>
 // The most constraints on a stack.
 const DEPTH: u64 = 65536;
 
+// Returns the height of the stack after an operation; `None` if an operand is missing, or the stack would pass 65,536.
 fn height_after(op: &PolOp, height: u64) -> Option<u64>
     requires { height ≤ 65536 }
     ensures value { result ≡ height_after op.now height }
@@ -93,7 +94,7 @@ fn height_after(op: &PolOp, height: u64) -> Option<u64>
     }
 }
 
-// Whether all operands are there, the stack is never too high, and one constraint is left.
+// True if all operands are there, the stack never passes 65,536, and one constraint is left.
 fn is_stacked(ops: &[PolOp]) -> bool
     ensures { result ≡ is_stacked ops.now }
 {
@@ -112,7 +113,7 @@ fn is_stacked(ops: &[PolOp]) -> bool
 // Sums of coefficients and degrees stay below this.
 const LIMIT: u128 = 1 << 126;
 
-// The constraint, where its numbers have room.
+// Returns the constraint, if the sum of its coefficients and its degree are each below 2^126.
 fn fitting(made: Linear) -> Option<Linear>
     ensures { result ≡ fitting made }
 {
@@ -123,7 +124,7 @@ fn fitting(made: Linear) -> Option<Linear>
     }
 }
 
-// Pushes a constraint, if there is one.
+// Pushes a constraint, if there is one, and returns whether there was.
 fn push_onto(stack: &mut Vec<Linear>, made: Option<Linear>) -> Result<bool, NoMemory>
     ensures { IfOk result (λ done. IsOutcome done (topped made (reverse stack.old.items)) (reverse stack.new.items)) }
 {
@@ -136,7 +137,7 @@ fn push_onto(stack: &mut Vec<Linear>, made: Option<Linear>) -> Result<bool, NoMe
     }
 }
 
-// Adds the two topmost constraints.
+// Replaces the two topmost constraints by their sum. False if the sum is too great.
 fn add_top(alloc: Global, stack: &mut Vec<Linear>) -> Result<bool, NoMemory>
     requires { All IsNarrow (reverse stack.old.items) }
     ensures { IfOk result (IsOpOutcome [] Add stack.old.items stack.new.items) }
@@ -151,7 +152,7 @@ fn add_top(alloc: Global, stack: &mut Vec<Linear>) -> Result<bool, NoMemory>
     push_onto(stack, sum)
 }
 
-// Multiplies the topmost constraint.
+// Multiplies the topmost constraint. False if the product is too great.
 fn multiply_top(alloc: Global, factor: u128, stack: &mut Vec<Linear>) -> Result<bool, NoMemory>
     requires { 0 < factor }
     ensures { (n : ℤ) → unsigned_abs n ≡ factor → IfOk result (IsOpOutcome [] (Mul n) stack.old.items stack.new.items) }
@@ -163,7 +164,7 @@ fn multiply_top(alloc: Global, factor: u128, stack: &mut Vec<Linear>) -> Result<
     push_onto(stack, made)
 }
 
-// Divides the topmost constraint.
+// Divides the topmost constraint, and rounds up.
 fn divide_top(alloc: Global, divisor: u128, stack: &mut Vec<Linear>) -> Result<bool, NoMemory>
     requires some { 0 < divisor }
     requires small { divisor ≤ 2 ^ 127 }
@@ -187,7 +188,7 @@ fn saturate_top(alloc: Global, stack: &mut Vec<Linear>) -> Result<bool, NoMemory
     push_onto(stack, made)
 }
 
-// Weakens the topmost constraint, which keeps its room.
+// Weakens a variable of the topmost constraint away, in place.
 fn weaken_top(var: Var, stack: &mut Vec<Linear>) -> Result<bool, NoMemory>
     requires { All IsNarrow (reverse stack.old.items) }
     ensures { IfOk result (IsOpOutcome [] (Weaken var) stack.old.items stack.new.items) }
@@ -198,7 +199,7 @@ fn weaken_top(var: Var, stack: &mut Vec<Linear>) -> Result<bool, NoMemory>
     push_onto(stack, Some(weakening(c, var)))
 }
 
-// Pushes the constraint with an id, which has room.
+// Pushes the constraint with an id.
 fn push_at(db: &Database, id: u64, stack: &mut Vec<Linear>) -> Result<bool, NoMemory>
     ensures { IfOk result (IsOpOutcome db.now.live (Push id) stack.old.items stack.new.items) }
 {
@@ -209,7 +210,7 @@ fn push_at(db: &Database, id: u64, stack: &mut Vec<Linear>) -> Result<bool, NoMe
     push_onto(stack, Some(copy))
 }
 
-// Does an operation, or says that it cannot be done.
+// Applies an operation. False if it cannot be applied.
 fn apply_op(db: &Database, op: &PolOp, stack: &mut Vec<Linear>) -> Result<bool, NoMemory>
     requires factor { HasFactor op.now }
     requires narrow { All IsNarrow (reverse stack.old.items) }
@@ -230,14 +231,14 @@ fn apply_op(db: &Database, op: &PolOp, stack: &mut Vec<Linear>) -> Result<bool, 
     }
 }
 
-// Whether an operation weakens.
+// True if the operation weakens.
 fn weakens(op: &PolOp) -> bool
     ensures { result ≡ is_weakening op.now }
 {
     matches!(op, PolOp::Weaken(_))
 }
 
-// How many operations at the front weaken.
+// Returns the number of operations at the front that weaken.
 fn weakenings_in_front(ops: &[PolOp]) -> usize
     ensures within { result ≤ length ops.now }
     ensures weaken { All IsWeakening (take result ops.now) }
@@ -250,7 +251,7 @@ fn weakenings_in_front(ops: &[PolOp]) -> usize
     ops.len()
 }
 
-// How many operations at the front are done at once: those that weaken, or one.
+// Returns the number of operations at the front that are applied at once: those that weaken, or one.
 fn run_in_front(ops: &[PolOp]) -> usize
     requires { 1 ≤ length ops.now }
     ensures some { 1 ≤ result }
@@ -274,7 +275,7 @@ fn weaken_by(run: &[PolOp], stack: &mut Vec<Linear>) -> Result<bool, NoMemory>
     push_onto(stack, Some(weakenings(c, run)))
 }
 
-// Does operations that stand together: one, or those that weaken.
+// Applies operations that are applied at once: one, or those that weaken. False if one cannot be applied.
 fn apply_run(db: &Database, run: &[PolOp], stack: &mut Vec<Linear>) -> Result<bool, NoMemory>
     requires some { 1 ≤ length run.now }
     requires run { IsRun run.now }
@@ -289,7 +290,7 @@ fn apply_run(db: &Database, run: &[PolOp], stack: &mut Vec<Linear>) -> Result<bo
     }
 }
 
-// Does operations one after the other, those that weaken together at once, until one cannot be done.
+// Applies operations in order, those that weaken together at once, until one cannot be applied.
 fn apply_ops(db: &Database, ops: &[PolOp], stack: &mut Vec<Linear>) -> Result<bool, NoMemory>
     requires sound { IsDatabase db.now }
     requires factors { All HasFactor ops.now }
@@ -308,7 +309,7 @@ fn apply_ops(db: &Database, ops: &[PolOp], stack: &mut Vec<Linear>) -> Result<bo
     Ok(true)
 }
 
-// The cause of a denial that is seen before the operations are done.
+// Returns the cause of a denial that is seen before the operations are applied.
 fn early_denial(db: &Database, ops: &[PolOp]) -> Option<Denied>
     ensures value { result ≡ early db.now ops.now }
     ensures sound { IsDatabase db.now }
@@ -325,7 +326,7 @@ fn early_denial(db: &Database, ops: &[PolOp]) -> Option<Denied>
     None
 }
 
-/// The constraint that the step adds.
+/// Returns the constraint that the operations make, or why the step is denied.
 pub(crate) fn sum_of(db: &Database, ops: &[PolOp]) -> Result<Linear, RuleFault>
     requires { IsSpelled (Pol ops.now) }
     ensures fit { IfOk result (IsSoundConstraint db.now.vars) }

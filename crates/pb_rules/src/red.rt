@@ -24,7 +24,7 @@ use pb_norm::Linear;
 use pb_operations::{degree_left, names_set, negation, negation_implies, restricted, restriction};
 use pb_steps::{Denied, Set};
 
-// The first set variable that is above a number.
+// Returns the first set variable that is above `vars`.
 fn set_above(vars: u32, sets: &[Set]) -> Option<Var>
     ensures { result ≡ find (λ v. nat_lt vars v) (vars_of_sets sets.now) }
 {
@@ -36,7 +36,7 @@ fn set_above(vars: u32, sets: &[Set]) -> Option<Var>
     None
 }
 
-// The first set variable that is one of the problem's.
+// Returns the first set variable that is one of the problem's.
 fn set_original(original: u32, sets: &[Set]) -> Option<Var>
     ensures { result ≡ find (λ v. nat_le v original) (vars_of_sets sets.now) }
 {
@@ -48,7 +48,7 @@ fn set_original(original: u32, sets: &[Set]) -> Option<Var>
     None
 }
 
-// The cause of a denial that is seen without propagation.
+// Returns the cause of a denial that is seen without propagation.
 fn seen_denial(db: &Database, terms: &[Term], right: &i128, sets: &[Set]) -> Option<Denied>
     ensures { result ≡ red_causes db.now terms.now right.now sets.now }
 {
@@ -67,7 +67,7 @@ fn seen_denial(db: &Database, terms: &[Term], right: &i128, sets: &[Set]) -> Opt
     None
 }
 
-// Whether the claim's negation gives a goal, by itself or with all constraints that stand.
+// True if the claim's negation implies a goal, by itself or by propagation over all live constraints.
 fn is_shown(db: &mut Database, claim: &Linear, goal: &Linear) -> Result<bool, NoMemory>
     requires claim { IsNarrow claim.now }
     requires goal { IsNarrow goal.now }
@@ -85,7 +85,7 @@ fn is_shown(db: &mut Database, claim: &Linear, goal: &Linear) -> Result<bool, No
     Ok(found)
 }
 
-// Whether what is left of the claim under the substitution is shown.
+// True if the claim's own restriction under the substitution is shown.
 fn own_is_met(db: &mut Database, claim: &Linear, sets: &[Set]) -> Result<bool, NoMemory>
     requires claim { IsNarrow claim.now }
     requires within { HasVarsWithin db.old.vars claim.now.terms }
@@ -101,7 +101,7 @@ fn own_is_met(db: &mut Database, claim: &Linear, sets: &[Set]) -> Result<bool, N
     Ok(found)
 }
 
-// What is left of the constraint with an id under the substitution, if it has a set variable.
+// Returns the restriction of the constraint with an id under the substitution, if it has a set variable.
 fn goal_of(db: &Database, sets: &[Set], id: u64) -> Result<Option<Linear>, NoMemory>
     ensures goal { IfOk result (λ goal. goal ≡ goal_of sets.now (constraint_at db.now.live id)) }
     ensures narrow { IfOk result (λ goal. IfSome goal IsNarrow) }
@@ -117,7 +117,7 @@ fn goal_of(db: &Database, sets: &[Set], id: u64) -> Result<Option<Linear>, NoMem
     Ok(Some(restricted(sets, constraint)))
 }
 
-// Whether the constraint with an id, if it has a set variable, is met.
+// True if the constraint with an id has no set variable, or its restriction under the substitution is shown.
 fn slot_is_met(db: &mut Database, claim: &Linear, sets: &[Set], id: u64) -> Result<bool, NoMemory>
     requires claim { IsNarrow claim.now }
     requires claim_within { HasVarsWithin db.old.vars claim.now.terms }
@@ -131,7 +131,7 @@ fn slot_is_met(db: &mut Database, claim: &Linear, sets: &[Set], id: u64) -> Resu
     Ok(found)
 }
 
-// Adds ids to a list.
+// Appends ids to a list.
 fn push_ids(ids: &[u32], list: &mut Vec<u64>) -> Result<(), NoMemory>
     ensures { OnOk result (list.new.items ≡ list.old.items ++ ids.now) }
 {
@@ -141,7 +141,7 @@ fn push_ids(ids: &[u32], list: &mut Vec<u64>) -> Result<(), NoMemory>
     Ok(())
 }
 
-// Ids, among them those of all constraints that have a set variable.
+// Returns the ids of all live constraints that have a set variable, and perhaps others, in any order.
 fn ids_to_show(db: &Database, sets: &[Set]) -> Result<Vec<u64>, NoMemory>
     requires { All (λ s. db.now.original < s.var) sets.now }
     ensures { IfOk result (λ ids. HasNamed db.now.live sets.now ids.items) }
@@ -153,7 +153,7 @@ fn ids_to_show(db: &Database, sets: &[Set]) -> Result<Vec<u64>, NoMemory>
     Ok(ids)
 }
 
-// The same in order, each once.
+// Returns the ids of all live constraints that have a set variable, and perhaps others, ascending and each once.
 fn named_ids(db: &Database, sets: &[Set]) -> Result<Vec<u64>, NoMemory>
     requires { All (λ s. db.now.original < s.var) sets.now }
     ensures named { IfOk result (λ ids. HasNamed db.now.live sets.now ids.items) }
@@ -165,7 +165,7 @@ fn named_ids(db: &Database, sets: &[Set]) -> Result<Vec<u64>, NoMemory>
     Ok(ids)
 }
 
-// The id of the first obligation that is not met.
+// Returns the id of the first obligation that is not met.
 fn first_unmet(db: &mut Database, claim: &Linear, sets: &[Set]) -> Result<Option<u64>, NoMemory>
     requires fresh { All (λ s. db.old.original < s.var) sets.now }
     requires claim { IsNarrow claim.now }
@@ -186,7 +186,7 @@ fn first_unmet(db: &mut Database, claim: &Linear, sets: &[Set]) -> Result<Option
     Ok(None)
 }
 
-/// The constraint that the step adds.
+/// Returns the constraint that a `red` line adds, or why the line is denied.
 pub(crate) fn claim_of(
     db: &mut Database,
     terms: &[Term],

@@ -15,7 +15,7 @@ use pb_database::Database;
 use pb_norm::Linear;
 use std::alloc::Global;
 
-/// The first variable of the terms that is above a number.
+/// Returns the first variable of the terms that is above `vars`.
 pub(crate) fn var_above(vars: u32, terms: &[Term]) -> Option<Var>
     ensures { result ≡ find (λ v. nat_lt vars v) (vars_of_terms terms.now) }
 {
@@ -27,7 +27,7 @@ pub(crate) fn var_above(vars: u32, terms: &[Term]) -> Option<Var>
     None
 }
 
-/// The first id with no constraint.
+/// Returns the first id under which no constraint is live.
 pub(crate) fn id_gone(db: &Database, ids: &[u64]) -> Option<u64>
     ensures { result ≡ find (λ id. not (is_live db.now.live id)) ids.now }
 {
@@ -42,7 +42,7 @@ pub(crate) fn id_gone(db: &Database, ids: &[u64]) -> Option<u64>
 // What sums of the numbers of written constraints stay below.
 const LIMIT: u128 = 1 << 126;
 
-// The absolute values of the numbers, added up, or the greatest number where that is less.
+// Returns the absolute values of the numbers, added up, but at most 2^128 - 1.
 fn size(terms: &[Term], right: &i128) -> u128
     ensures { result ≡ min (magnitude terms.now + unsigned_abs right.now) (2 ^ 128 - 1) }
 {
@@ -53,14 +53,14 @@ fn size(terms: &[Term], right: &i128) -> u128
     sum
 }
 
-/// Whether the numbers of a written constraint have room.
+/// True if the numbers of a written constraint add up to less than 2^126.
 pub(crate) fn is_slim(terms: &[Term], right: &i128) -> bool
     ensures { result ≡ nat_lt (magnitude terms.now + unsigned_abs right.now) (2 ^ 126) }
 {
     size(terms, right) < LIMIT
 }
 
-/// The constraint that is written, in normal form.
+/// Returns the constraint that is written, in normal form.
 pub(crate) fn claim_of(alloc: Global, terms: &[Term], right: &i128) -> Result<Linear, NoMemory>
     requires { IsSlim terms.now right.now }
     ensures claim { IfOk result (λ c. c ≡ written terms.now right.now) }

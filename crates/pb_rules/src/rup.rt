@@ -20,7 +20,7 @@ use pb_norm::Linear;
 use pb_operations::negation;
 use pb_steps::Denied;
 
-// The cause of a denial that is seen without propagation.
+// Returns the cause of a denial that is seen without propagation.
 fn seen_denial(db: &Database, terms: &[Term], right: &i128, ids: &[u64]) -> Option<Denied>
     ensures { (clause : Option (List Lit)) → result ≡ seen_denial db.now (Rup terms.now right.now ids.now) clause }
 {
@@ -36,7 +36,8 @@ fn seen_denial(db: &Database, terms: &[Term], right: &i128, ids: &[u64]) -> Opti
     None
 }
 
-// Whether propagation over the claim's negation and the constraints that may be used reaches a conflict.
+// True if propagation over the claim's negation and the constraints with the ids, or all live ones if there are no ids, reaches a
+// conflict.
 fn is_shown(db: &mut Database, claim: &Linear, ids: &[u64]) -> Result<bool, NoMemory>
     requires narrow { IsNarrow claim.now }
     requires within { HasVarsWithin db.old.vars claim.now.terms }
@@ -52,7 +53,7 @@ fn is_shown(db: &mut Database, claim: &Linear, ids: &[u64]) -> Result<bool, NoMe
     Ok(found)
 }
 
-/// The constraint that the step adds.
+/// Returns the constraint that a `rup` line adds, or why the line is denied.
 pub(crate) fn claim_of(
     db: &mut Database,
     terms: &[Term],
