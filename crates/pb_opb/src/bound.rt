@@ -9,7 +9,7 @@ use pb_base::{NoMemory, Problem, Relation, Term, Terms};
 use std::alloc::Global;
 use thiserror::Error;
 
-/// Why a problem gets no bound on its objective.
+/// The reason why a problem gets no bound on its objective.
 #[derive(Clone, Copy, Debug, Error)]
 pub enum BoundFault {
     /// The absolute values of the bound and of the objective's coefficients add up to 2^100 or more.
@@ -23,12 +23,13 @@ pub enum BoundFault {
 impl From<NoMemory> for BoundFault {
     ghost from_gives = { λ _ f. f ≡ fault.NoMemory };
 
+    // Lets `?` pass on that memory ran out.
     fn from(_error: NoMemory) -> BoundFault {
         BoundFault::NoMemory
     }
 }
 
-// The terms of the objective, if there is one.
+// Returns the terms of the objective; none if there is no objective.
 fn terms_in(objective: &Option<Terms>) -> &[Term]
     ensures { result.now ≡ unwrap_or objective.now [] }
 {
@@ -38,7 +39,7 @@ fn terms_in(objective: &Option<Terms>) -> &[Term]
     }
 }
 
-// The absolute values of the coefficients, added up.
+// Returns the absolute values of the coefficients, added up.
 fn magnitude_of(terms: &[Term]) -> u128
     requires { magnitude terms.now < 2 ^ 128 }
     ensures { result ≡ magnitude terms.now }
@@ -46,15 +47,19 @@ fn magnitude_of(terms: &[Term]) -> u128
     terms.iter().map(|term| term.weight()).sum()
 }
 
-/// The problem with one more statement behind the others: that its objective is at most the bound. A problem without an
-/// objective has the empty sum.
+/// Adds one more statement after the others: that the objective is at most the bound. A problem without an objective has the empty sum.
+///
+/// ```text
+/// min: +2 x1 +3 x2 ; +1 x1 +1 x2 >= 1 ;     with the bound 4, after the one statement: +2 x1 +3 x2 <= 4
+/// +1 x1 >= 1 ;                              with the bound -1, after the one statement: an empty sum <= -1
+/// ```
 pub fn bounded(_alloc: Global, problem: Problem, bound: i128) -> Result<Problem, BoundFault>
     requires within { IsWithinLimits problem }
     requires room { length problem.statements ≤ 2 ^ 24 }
 
     // The problem has one more statement, that its objective is at most the bound; the objective is the empty sum if there is none.
     ensures ok { IfOk result (λ p. p ≡ bounded problem bound) }
-    // It is within what the crates above require.
+    // The problem is within what the crates above require.
     ensures within { IfOk result IsWithinLimits }
     // A problem is answered only if the absolute values of the objective's coefficients and of the bound add up to less than 2^100.
     ensures light { OnOk result (bound_weight problem bound < 2 ^ 100) }

@@ -1,4 +1,4 @@
-//! What stands between the tokens of a text.
+//! The gaps between the tokens of a text.
 ghost use Rattle.std.specs.Prelude.{◌≡◌, ◌<◌, IfSome, IfNone, length};
 ghost use Rattle.pb_base.specs.Tokens.{is_white};
 ghost use Rattle.pb_base.specs.inner.Scans.{BeginsToken};
@@ -6,14 +6,14 @@ ghost use Rattle.pb_opb.specs.reader.Heads.{Skips};
 
 use crate::first_line::first_line;
 
-/// Whether a byte is a space, a tab, a CR or an LF.
+/// True if the byte is a space, a tab, a CR or an LF.
 pub fn is_white(b: u8) -> bool
     ensures { result ≡ is_white b }
 {
     matches!(b, b' ' | b'\t' | b'\r' | b'\n')
 }
 
-// What is left past the white byte or the comment at the front, if one stands there.
+// Returns the text after the white byte or the comment at the front, if one is there.
 fn past_one(text: &[u8]) -> Option<&[u8]>
     ensures skips { IfSome result (λ left. Skips text.now left.now) }
     ensures less { IfSome result (λ left. length left.now < length text.now) }
@@ -32,7 +32,7 @@ fn past_one(text: &[u8]) -> Option<&[u8]>
     None
 }
 
-/// What is left past the white bytes and comments at the front.
+/// Returns the text after the white bytes and comments at the front.
 pub fn past_gap(text: &[u8]) -> &[u8]
     ensures skips { Skips text.now result.now }
     ensures front { BeginsToken result.now }

@@ -10,7 +10,7 @@ ghost use Rattle.pb_opb.specs.reader.Heads.{AreDigits, IsHead, behind_x, ends_wo
 use crate::gap::is_white;
 use pb_base::{Relation, tokens};
 
-/// A token, by what it stands for.
+/// A token of few digits, read.
 #[derive(Clone, Copy)]
 pub enum Short {
     /// An integer from 0 on.
@@ -23,14 +23,14 @@ pub enum Short {
     Semicolon,
 }
 
-/// The token at the front of a text, and what stands behind it.
+/// The token at the front of a text, and the text after it.
 #[derive(Clone, Copy)]
 pub struct Head<'a> {
     pub short: Short,
     pub rest: &'a [u8],
 }
 
-/// The number of the digits at the front of a text, and what stands behind them.
+/// The number of the digits at the front of a text, and the text after them.
 #[derive(Clone, Copy)]
 pub struct Digits<'a> {
     pub value: u64,
@@ -40,14 +40,14 @@ pub struct Digits<'a> {
 // One digit more of a number below this makes one of 64 bits.
 const FULL: u64 = 1_000_000_000_000_000_000;
 
-// Whether a byte ends the word before it: a white one, or `;`.
+// True if the byte ends the word before it: a white byte, or `;`.
 fn ends_word(b: u8) -> bool
     ensures { result ≡ ends_word b }
 {
     is_white(b) || b == b';'
 }
 
-// The digits at the front, if they are few and a word ends behind them.
+// Reads the digits at the front, if they fit into 64 bits and a word ends after them.
 fn few_digits(bytes: &[u8]) -> Option<Digits<'_>>
     ensures { IfSome result (AreDigits bytes.now) }
 {
@@ -70,7 +70,7 @@ fn few_digits(bytes: &[u8]) -> Option<Digits<'_>>
     None
 }
 
-// An integer without a sign.
+// Reads an integer without a sign.
 fn unsigned(bytes: &[u8]) -> Option<Head<'_>>
     ensures { IfSome result (IsHead bytes.now) }
 {
@@ -83,7 +83,7 @@ fn unsigned(bytes: &[u8]) -> Option<Head<'_>>
     }
 }
 
-// An integer behind a `+`.
+// Reads an integer after its `+`.
 fn positive(bytes: &[u8]) -> Option<Head<'_>>
     ensures { IfSome result (IsHead (43 ∷ bytes.now)) }
 {
@@ -96,7 +96,7 @@ fn positive(bytes: &[u8]) -> Option<Head<'_>>
     }
 }
 
-// An integer behind a `-`.
+// Reads an integer after its `-`.
 fn negative(bytes: &[u8]) -> Option<Head<'_>>
     ensures { IfSome result (IsHead (45 ∷ bytes.now)) }
 {
@@ -109,7 +109,7 @@ fn negative(bytes: &[u8]) -> Option<Head<'_>>
     }
 }
 
-// An index behind an `x`, or behind `~x`.
+// Reads an index after an `x`, or after `~x`.
 fn index(positive: bool, bytes: &[u8]) -> Option<Head<'_>>
     ensures { IfSome result (IsHead (behind_x positive bytes.now)) }
 {
@@ -122,8 +122,8 @@ fn index(positive: bool, bytes: &[u8]) -> Option<Head<'_>>
     }
 }
 
-/// The token at the front, by its first byte, if it is a relation, a `;`, or an integer or the literal of an index in few
-/// digits, behind which a white byte or a `;` stands.
+/// Reads the token at the front by its first byte, if it is in the usual form; `None` for any other, which is read as a word. Usual are a
+/// relation, a `;`, and an integer or the literal of an index in few digits, after which a white byte or a `;` comes.
 pub fn head_of(text: &[u8]) -> Option<Head<'_>>
     ensures { IfSome result (IsHead text.now) }
 {
@@ -152,7 +152,7 @@ pub fn head_of(text: &[u8]) -> Option<Head<'_>>
     }
 }
 
-/// The token at the front, whatever it is.
+/// Returns the token at the front, whatever it is.
 pub fn first_token(text: &[u8]) -> &[u8]
     requires some { 1 ≤ length text.now }
     requires front { BeginsToken text.now }

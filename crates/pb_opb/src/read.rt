@@ -15,17 +15,21 @@ use pb_base::{LimitKind, MAX_TEXT, Place, Problem, end_of};
 use pb_named::{NamedProblem, NumberFault, number};
 use std::alloc::Global;
 
-/// Reads an OPB text, or tells its first fault.
+/// Reads an OPB text, or answers its first fault.
 ///
-/// The text is within the limits: at most 2^32 bytes, 2^24 statements, 2^20 literals in one sum and
-/// variables up to 2^31 - 1, and the absolute values of a statement's numbers, or of the
-/// objective's, add up to less than 2^100. As many variables are named by numbers as the first
-/// line tells, or as many as the greatest index where that is more; behind them stand those of
-/// free names of at most 255 bytes, in the order in which the text first has them.
+/// The text is within the limits: at most 2^32 bytes, 2^24 statements, 2^20 literals in one sum and variables up to 2^31 - 1, and the
+/// absolute values of a statement's numbers, or of the objective's, add up to less than 2^100. As many variables are named by numbers
+/// as the first line declares, or as many as the greatest index if that is more. After them come those of free names of at most 255
+/// bytes, in the order in which the text first has them.
+///
+/// ```text
+/// +1 rain +1 x3 >= 1 ;     4 variables, of which `rain` is variable 4; one statement
+/// +1 x1 +1 x2 >= ;         Token { place: 1:16, expected: an integer }
+/// ```
 pub fn read_opb(alloc: Global, text: &[u8]) -> Result<Problem, OpbFault>
     // The problem is the one that the text says, and no limit is passed.
     ensures reads { IfOk result (Reads text.now) }
-    // It is within what the crates above require.
+    // The problem is within what the crates above require.
     ensures within { IfOk result IsWithinLimits }
     // A fault is `NoMemory` or the text's first: its length; the number in the first line; the first token with which no accepted text
     // begins, or with which a limit is passed; else too many variables. It says what could come there.
@@ -46,7 +50,7 @@ pub fn read_opb(alloc: Global, text: &[u8]) -> Result<Problem, OpbFault>
     }
 }
 
-// Reads a text whose first line tells a number of variables.
+// Reads a text whose first line declares a number of variables, or 0.
 fn read_within(alloc: Global, text: &[u8], told: u32) -> Result<Problem, OpbFault>
     requires admitted { IsAdmitted text.now }
     requires told { told ≡ told_vars text.now }
@@ -68,7 +72,7 @@ fn read_within(alloc: Global, text: &[u8], told: u32) -> Result<Problem, OpbFaul
     }
 }
 
-// Where what is left of a text begins. Lines and columns are counted for a fault alone.
+// Returns the place at which the unread text begins. Lines and columns are counted for a fault alone.
 fn place_of(text: &[u8], left: &[u8]) -> Place
     requires { length left.now ≤ length text.now }
     ensures { result ≡ end_of (take (length text.now - length left.now) text.now) }
@@ -76,7 +80,7 @@ fn place_of(text: &[u8], left: &[u8]) -> Place
     end_of(&text[..text.len() - left.len()])
 }
 
-// Reads the tokens of a text.
+// Reads the tokens of a text, with their gaps.
 fn read_tokens(alloc: Global, text: &[u8]) -> Result<NamedProblem<'_>, OpbFault>
     requires { IsAdmitted text.now }
     ensures spells { IfOk result (Spells text.now) }

@@ -20,7 +20,7 @@ use pb_named::{Name, NamedLit, NamedProblem, NamedStatements, NamedTerm, NamedTe
 use std::alloc::{AllocError, Global};
 use std::mem;
 
-// The terms, of which the last has one literal more.
+// Adds a literal to the last term.
 fn with_further<'a>(
     alloc: Global,
     terms: NamedTerms<'a>,
@@ -38,7 +38,7 @@ fn with_further<'a>(
     Ok(NamedTerms::from_vec(items))
 }
 
-/// What was read of a text so far.
+/// The part of a problem that was read so far, and the open sum.
 #[derive(Drop)]
 pub struct Reader<'a> {
     pub objective: Option<NamedTerms<'a>>,
@@ -53,6 +53,7 @@ pub struct Reader<'a> {
 }
 
 impl<'a> Reader<'a> {
+    /// Starts before the first token.
     pub fn new(alloc: Global) -> Self
         ensures read { IsRead result }
         ensures kinds { read_kinds result ≡ [] }
@@ -67,7 +68,7 @@ impl<'a> Reader<'a> {
         }
     }
 
-    /// Takes the token at the front of a text, of which it gives what is left, or says why not.
+    /// Reads the token at the front of a text, and returns the text after it, or why it is refused.
     pub fn take(&mut self, alloc: Global, text: &'a [u8]) -> Result<&'a [u8], Refusal>
         requires read { IsRead self.old }
         requires some { 1 ≤ length text.now }
@@ -90,7 +91,7 @@ impl<'a> Reader<'a> {
         }
     }
 
-    // Takes a token that was read as it was found.
+    // Reads a token in the usual form.
     fn take_short(&mut self, alloc: Global, short: Short) -> Result<(), Refusal>
         requires read { IsRead self.old }
         requires reach { IsInReach short }
@@ -109,7 +110,7 @@ impl<'a> Reader<'a> {
         }
     }
 
-    // Takes a token, whatever it is.
+    // Reads a token in any form.
     fn take_word(&mut self, alloc: Global, word: &'a [u8]) -> Result<(), Refusal>
         requires { IsRead self.old }
         ensures ok { OnOk result (Took self.old self.new (kind_of word.now)) }
@@ -128,7 +129,7 @@ impl<'a> Reader<'a> {
         }
     }
 
-    // Goes on to where a token leads, if it may stand there.
+    // Moves to the stage that a token leads to; `None` refuses the token.
     fn go(&mut self, next: Option<Stage>) -> Result<(), Refusal>
         requires { IsRead self.old }
         ensures ok { (k : Kind) → MayLead self.old.stage k next → OnOk result (Took self.old self.new k) }
@@ -140,7 +141,7 @@ impl<'a> Reader<'a> {
         }
     }
 
-    // Takes an integer that is too wide.
+    // Reads an integer of absolute value 2^126 or more, which passes the limit of weights wherever an integer may come.
     fn take_wide(&mut self) -> Result<(), Refusal>
         requires { IsRead self.old }
         ensures ok { (n : ℤ) → 2 ^ 126 ≤ unsigned_abs n → OnOk result (Took self.old self.new (integer n)) }
@@ -152,7 +153,7 @@ impl<'a> Reader<'a> {
         }
     }
 
-    // Takes a literal within the limits.
+    // Reads a literal within the limits of indices and names.
     fn take_literal(&mut self, alloc: Global, lit: NamedLit<'a>) -> Result<(), Refusal>
         requires read { IsRead self.old }
         requires near { IsNear lit }
@@ -170,7 +171,7 @@ impl<'a> Reader<'a> {
         }
     }
 
-    // Takes no literal that passes this limit.
+    // Refuses a literal that passes this limit, or that may not come here.
     fn refuse_literal(&mut self, which: LimitKind) -> Result<(), Refusal>
         requires { IsRead self.old }
         ensures ok { OnOk result ⊥ }
@@ -182,7 +183,7 @@ impl<'a> Reader<'a> {
         }
     }
 
-    // Takes a `;`.
+    // Ends the open statement or objective; refused anywhere else.
     fn take_semicolon(&mut self, alloc: Global) -> Result<(), Refusal>
         requires { IsRead self.old }
         ensures ok { OnOk result (Took self.old self.new semicolon) }
@@ -201,7 +202,7 @@ impl<'a> Reader<'a> {
         }
     }
 
-    // Goes on to a stage, with a new weight, if that passes no limit.
+    // Moves to a stage with a new weight, if that passes no limit.
     fn go_on(&mut self, next: Stage, weight: u128) -> Result<(), Refusal>
         requires statements { length self.old.statements ≤ 2 ^ 24 }
         requires literals { self.old.literals ≤ 2 ^ 20 }
@@ -219,7 +220,7 @@ impl<'a> Reader<'a> {
         }
     }
 
-    // Puts a term of one literal behind the open sum.
+    // Adds a term of one literal to the open sum.
     fn add_term(&mut self, part: Part, term: NamedTerm<'a>) -> Result<(), AllocError>
         requires { self.old.literals < 2 ^ 20 }
         ensures { OnOk result (self.new ≡ with_term self.old part term.entry) }
@@ -230,7 +231,7 @@ impl<'a> Reader<'a> {
         Ok(())
     }
 
-    // Puts a literal behind those of the last term, if that passes no limit.
+    // Adds a literal to the last term, if that passes no limit.
     fn add_further(&mut self, alloc: Global, part: Part, lit: NamedLit<'a>) -> Result<(), Refusal>
         requires { Ends self.old.terms }
         ensures ok { OnOk result (HasFurther self.old self.new part lit.entry) }
@@ -247,7 +248,7 @@ impl<'a> Reader<'a> {
         Ok(())
     }
 
-    // The limit that a literal passes first which passes another than that of their number.
+    // Returns the limit to report for a literal that passes this one: that of the number of literals comes first.
     fn first_passed(&self, which: LimitKind) -> LimitKind
         ensures { result ≡ first_passed self.now.literals which }
     {
@@ -258,7 +259,7 @@ impl<'a> Reader<'a> {
         }
     }
 
-    // Puts the open statement behind the others.
+    // Adds the open sum to the statements.
     fn end_statement(
         &mut self,
         alloc: Global,
@@ -287,7 +288,7 @@ impl<'a> Reader<'a> {
         self.stage = Stage::Next;
     }
 
-    /// Takes the end of the text.
+    /// Ends the text, and returns what was read; refused within a statement or an objective.
     pub fn finish(self) -> Result<NamedProblem<'a>, Refusal>
         requires { IsRead self }
         ensures ok { IfOk result (Finishes (read_kinds self.entry)) }

@@ -1,16 +1,16 @@
-//! Where a reader stands, and where a token leads from there.
+//! The stages of reading a text, and the stage after each token.
 ghost use Rattle.std.specs.Prelude.{◌≡◌};
 
 use pb_base::{Expected, LimitKind, MAX_STATEMENTS, MAX_TERMS, Relation, WEIGHT_BITS};
 
-/// What a sum belongs to.
+/// The owner of the open sum: the objective or a statement.
 #[derive(Clone, Copy)]
 pub enum Part {
     Objective,
     Statement,
 }
 
-/// Where a reader stands, with what it has of the token before.
+/// The state of reading a text, with what is known of the token before.
 #[derive(Clone, Copy)]
 pub enum Stage {
     Start,
@@ -18,24 +18,24 @@ pub enum Stage {
     /// Behind the word that begins an objective.
     Minimised,
     Coefficient(Part, i128),
-    /// Behind a literal, where a further one of the same term may stand.
+    /// After a literal, where a further one of the same term may come.
     Literals(Part),
     Related(Relation),
     Right(Relation, i128),
 }
 
-/// Where a reader stands, as a literal finds it.
+/// The position of a literal in the open sum.
 #[derive(Clone, Copy)]
 pub enum Spot {
     /// A term begins with the literal.
     First(Part, i128),
     /// The last term has one literal more.
     Further(Part),
-    /// No literal may stand there.
+    /// No literal may come there.
     Elsewhere,
 }
 
-/// What a `;` ends.
+/// The part of a text that a `;` ends.
 #[derive(Clone, Copy)]
 pub enum Ending {
     Objective,
@@ -54,7 +54,7 @@ impl Stage {
     ghost use Rattle.pb_opb.specs.reader.Steps.{MayLead, MayLeadAs, IsSpot, IsEnding, stage_weight};
     ghost use Rattle.pb_opb.specs.reader.Takes.{Passes};
 
-    /// What could stand where a reader stands.
+    /// Returns the token that a fault at this stage says is expected.
     pub fn expected(self) -> Expected
         ensures { result ≡ expected (state_of self) }
     {
@@ -70,7 +70,7 @@ impl Stage {
         }
     }
 
-    /// How much the stage adds to its sum's weight.
+    /// Returns the weight that the stage adds to its sum: the absolute value of the number just read, else 0.
     pub fn stage_weight(self) -> u128
         ensures value { result ≡ stage_weight self }
         ensures bound { result ≤ 2 ^ 127 }
@@ -82,7 +82,7 @@ impl Stage {
         }
     }
 
-    /// How many statements the stage has begun.
+    /// Returns 1 if the stage is within a statement, and else 0.
     pub fn begun_statements(self) -> usize
         ensures value { result ≡ begun_statements self }
         ensures bound { result ≤ 1 }
@@ -98,7 +98,7 @@ impl Stage {
         }
     }
 
-    /// How many literals the stage has begun.
+    /// Returns 1 if the stage is after a coefficient, whose literal is still to come, and else 0.
     pub fn begun_literals(self) -> usize
         ensures value { result ≡ begun_literals self }
         ensures bound { result ≤ 1 }
@@ -109,8 +109,7 @@ impl Stage {
         }
     }
 
-    /// The first limit that is passed at the stage, with these statements and literals behind it
-    /// and a weight so far.
+    /// Returns the first limit that is passed at the stage, given the statements and literals before it and the weight so far.
     pub fn passed_limit(self, statements: usize, literals: usize, weight: u128) -> Option<LimitKind>
         requires statements { statements ≤ 2 ^ 24 }
         requires literals { literals ≤ 2 ^ 20 }
@@ -127,7 +126,7 @@ impl Stage {
         }
     }
 
-    /// Where the word that begins an objective leads.
+    /// Returns the stage after `min:`, if it may come here.
     pub fn minimise(self) -> Option<Stage>
         ensures { MayLead self minimise result }
     {
@@ -137,7 +136,7 @@ impl Stage {
         }
     }
 
-    /// Where an integer leads.
+    /// Returns the stage after an integer, if one may come here.
     pub fn integer(self, n: i128) -> Option<Stage>
         ensures { MayLead self (integer n) result }
     {
@@ -150,7 +149,7 @@ impl Stage {
         }
     }
 
-    /// Where 0 leads, in place of an integer of absolute value 2 ^ 126 or more.
+    /// Returns the stage after an integer of absolute value 2^126 or more, with 0 in its place, if an integer may come here.
     pub fn wide(self) -> Option<Stage>
         ensures { (n : ℤ) → 2 ^ 126 ≤ unsigned_abs n → MayLeadAs self (integer n) result }
     {
@@ -164,7 +163,7 @@ impl Stage {
         }
     }
 
-    /// Where a relation leads.
+    /// Returns the stage after a relation, if one may come here.
     pub fn relation(self, sign: Relation) -> Option<Stage>
         ensures { MayLead self (relation sign) result }
     {
@@ -176,7 +175,7 @@ impl Stage {
         }
     }
 
-    /// Where a literal would stand.
+    /// Returns the position that a literal would have here.
     pub fn spot(self) -> Spot
         ensures { IsSpot self result }
     {
@@ -187,7 +186,7 @@ impl Stage {
         }
     }
 
-    /// What a `;` would end.
+    /// Returns the part of the text that a `;` would end here.
     pub fn ending(self) -> Ending
         ensures { IsEnding self result }
     {
