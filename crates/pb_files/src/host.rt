@@ -23,7 +23,7 @@ pub struct Host<'a, R: Files<File = File> + Print> {
 }
 
 impl<'a, R: Files<File = File> + Print> Host<'a, R> {
-    /// The system that the program runs on. It is to be made before a file is opened.
+    /// Makes the system that the program runs on, before any file is opened.
     pub fn new(system: &'a R) -> Self {
         let closed = take_closed(system);
         Host {
@@ -35,7 +35,7 @@ impl<'a, R: Files<File = File> + Print> Host<'a, R> {
         }
     }
 
-    // The file that a slot reads.
+    // Returns the file that a slot reads.
     fn to_read(&self, slot: u8) -> Result<&File, Failed> {
         match self.reading.get(slot as usize) {
             Some(Some(opened)) => Ok(opened.file()),
@@ -43,7 +43,7 @@ impl<'a, R: Files<File = File> + Print> Host<'a, R> {
         }
     }
 
-    // The file that a slot writes.
+    // Returns the file that a slot writes.
     fn to_write(&self, slot: u8) -> Result<&File, Failed> {
         match self.writing.get(slot as usize) {
             Some(Some(opened)) => Ok(opened.file()),
@@ -52,15 +52,15 @@ impl<'a, R: Files<File = File> + Print> Host<'a, R> {
     }
 }
 
-// Keeps a file that was opened, and says which one it is.
+// Stores a file that was opened, and returns its identity, if the system has one for it.
 fn keep(place: &mut Option<Opened>, file: File) -> Result<Option<FileId>, Failed> {
     let id = id_of(file.metadata())?;
     *place = Some(Opened::new(file)?);
     Ok(id)
 }
 
-// Takes the number of each standard stream that is closed, so that no file gets it. The system gives the lowest free
-// number first. What is read from the root folder, or written there, fails.
+// Opens the root folder in place of each standard stream that is closed, so that no file gets its number: the system gives the lowest
+// free number first. What is read from the root folder, or written there, fails.
 fn take_closed<R: Files<File = File>>(system: &R) -> [Option<File>; 3] {
     let mut closed = [None, None, None];
     for place in &mut closed {
@@ -72,13 +72,13 @@ fn take_closed<R: Files<File = File>>(system: &R) -> [Option<File>; 3] {
     closed
 }
 
-// Which file standard output is. It is asked by the name that Linux has for it, since std has no other way; where the
-// system has no such names, it is none.
+// Returns the identity of standard output, by the name that Linux has for it, since std has no other way; `None` if the system has no
+// such name.
 fn output_of<R: Files<File = File>>(system: &R) -> Option<FileId> {
     id_of(fs::metadata(system, "/proc/self/fd/1")).unwrap_or(None)
 }
 
-// Whether the system tells that it is a pipe or a device.
+// True if the system says that the file is a pipe or a device.
 fn is_device(file: &File) -> bool {
     match file.metadata() {
         Ok(data) => !data.is_file(),
@@ -86,7 +86,7 @@ fn is_device(file: &File) -> bool {
     }
 }
 
-// A pipe or a device has no bytes to take away, and nothing to wait for.
+// Ignores the refusal to empty or sync a pipe or a device, which has no bytes to take away, and nothing to wait for.
 fn unless_device(file: &File, answer: io::Result<()>) -> Result<(), Failed> {
     match answer {
         Ok(()) => Ok(()),
@@ -104,10 +104,12 @@ impl<'a, R: Files<File = File> + Print> System for Host<'a, R> {
 
     ghost output = { λ host. host.output };
 
+    // Returns the identity of standard output, as it was at the start.
     fn output(&self) -> Option<FileId> {
         self.output
     }
 
+    // Opens a file to read, and stores it in the slot.
     fn open(&mut self, slot: u8, name: &str) -> Result<Option<FileId>, Failed> {
         match fs::open(self.system, name) {
             Ok(file) => keep(&mut self.reading[slot as usize], file),
@@ -115,6 +117,7 @@ impl<'a, R: Files<File = File> + Print> System for Host<'a, R> {
         }
     }
 
+    // Opens a file to write as it is, or makes it, and stores it in the slot.
     fn create(&mut self, slot: u8, name: &str) -> Result<Option<FileId>, Failed> {
         let mut options = OpenOptions::new();
         options.write(true).create(true);
@@ -124,11 +127,13 @@ impl<'a, R: Files<File = File> + Print> System for Host<'a, R> {
         }
     }
 
+    // Empties the slot's file; a pipe or a device stays as it is.
     fn truncate(&mut self, slot: u8) -> Result<(), Failed> {
         let file = self.to_write(slot)?;
         unless_device(file, file.set_len(0))
     }
 
+    // Reads the next bytes of the slot's file, again after each interrupt.
     fn read(&mut self, slot: u8, room: &mut [u8]) -> Result<usize, Failed> {
         let mut file = self.to_read(slot)?;
         for _ in 0..u64::MAX {
@@ -141,6 +146,7 @@ impl<'a, R: Files<File = File> + Print> System for Host<'a, R> {
         Err(Failed)
     }
 
+    // Writes a first part of the piece, again after each interrupt.
     fn write(&mut self, slot: u8, piece: &[u8]) -> Result<usize, Failed> {
         let mut file = self.to_write(slot)?;
         for _ in 0..u64::MAX {
@@ -153,11 +159,13 @@ impl<'a, R: Files<File = File> + Print> System for Host<'a, R> {
         Err(Failed)
     }
 
+    // Waits until the disk has the bytes of the slot's file; nothing for a pipe or a device.
     fn sync(&mut self, slot: u8) -> Result<(), Failed> {
         let file = self.to_write(slot)?;
         unless_device(file, file.sync_all())
     }
 
+    // Prints a first part of the piece, again after each interrupt.
     fn say(&mut self, piece: &[u8]) -> Result<usize, Failed> {
         for _ in 0..u64::MAX {
             match io::writer(self.system).write(piece) {

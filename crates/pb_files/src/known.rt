@@ -5,7 +5,7 @@ ghost use Rattle.pb_files.specs.Asked.{is_id, is_known};
 
 use crate::FileId;
 
-// Whether it is this file.
+// True if a known file has this identity: the same device and number.
 #[tactic(auto, unfolding(crate::specs::Asked::is_id))]
 fn is_id(id: FileId, known: &Option<FileId>) -> bool
     ensures { result ≡ is_id id known.now }
@@ -16,14 +16,14 @@ fn is_id(id: FileId, known: &Option<FileId>) -> bool
     }
 }
 
-// Whether the file is one of those.
+// True if one of the known files has this identity.
 fn is_among(known: &[Option<FileId>], id: FileId) -> bool
     ensures { result ≡ list_any (is_id id) known.now }
 {
     known.iter().any(|known| is_id(id, known))
 }
 
-/// Whether it is told which file this is, and it is one of those.
+/// True if the identity of the file is known, and one of the known files has it.
 pub fn is_known(known: &[Option<FileId>], id: Option<FileId>) -> bool
     ensures { result ≡ is_known known.now id }
 {

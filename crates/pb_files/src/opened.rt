@@ -17,7 +17,7 @@ pub struct Opened {
 }
 
 impl Opened {
-    /// Holds a file, unless it has the number of a standard stream.
+    /// Takes a file over, unless it has the number of a standard stream.
     pub fn new(file: File) -> Result<Opened, Failed> {
         if file.as_raw_fd() > 2 {
             Ok(Opened { file })
@@ -26,13 +26,13 @@ impl Opened {
         }
     }
 
-    /// The file.
+    /// Returns the file.
     pub fn file(&self) -> &File {
         &self.file
     }
 }
 
-/// Which file it is. A terminal or another device may be read and written at once, so it is none.
+/// Returns the identity of a file. A terminal or another device may be read and written at once, so it has none.
 pub fn id_of(told: io::Result<Metadata>) -> Result<Option<FileId>, Failed> {
     let Ok(data) = told else {
         return Err(Failed);

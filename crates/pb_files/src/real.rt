@@ -11,19 +11,19 @@ use crate::{FileId, System};
 use pb_base::{Failed, FaultCount};
 use pb_desk::{Desk, is_file_end};
 
-/// What a desk over a system shows; what it has asked of it, and holds.
+/// The state of a desk over a system, and the log of the calls that it made.
 pub trait Asks {
     ghost shown: { Self → DeskState };
 
     ghost asked: { Self → Asked };
 
-    /// It tells what its calls show over the files that are supposed.
+    /// The desk tells what its calls show over the files that are supposed.
     ghost shows: { (desk : Self) → (shown desk).view.told ≡ option_map (told_of (asked desk).files) (asked desk).calls };
 
-    /// It keeps to that iff each answer was what those files give.
+    /// The desk keeps to what it tells iff each answer was what the supposed files give.
     ghost answers: { (desk : Self) → (shown desk).keeps ≡ option_map_or (answers_as (asked desk).files) (asked desk).calls true };
 
-    /// It reads and writes by whole pieces: its calls of a system that moves each piece whole are few.
+    /// The desk reads and writes by whole pieces: its calls of a system that moves each piece whole are few.
     ghost by_pieces: { (desk : Self) → ForSome (asked desk).calls (IsByPieces (asked desk).files) };
 }
 
@@ -65,8 +65,8 @@ impl<S: System + Drop> Asks for RealDesk<S> {
 }
 
 impl<S: System + Drop> RealDesk<S> {
-    /// The desk of a system, with nothing open and no fault counted. Of files it knows standard output alone. What the system was asked
-    /// before went by whole pieces.
+    /// Makes the desk of a system, with nothing open and no fault counted. Of files it knows standard output alone. The calls that the
+    /// system recorded before went by whole pieces.
     pub fn new(system: S) -> Self
         requires pieces { ForSome (S.calls system) (λ calls. moves_pieces calls ≡ true) }
         // Nothing is open.
@@ -113,6 +113,7 @@ impl<S: System + Drop> Desk for RealDesk<S> {
 
     ghost state = { ⟦<RealDesk<S> as Asks>⟧.shown };
 
+    // Opens the file for reading, and notes its identity.
     fn open(&mut self, slot: u8, name: &str) -> Result<(), Failed>
         requires kind { slot < 5 }
         requires free { (⟦<RealDesk<S> as Asks>⟧.shown self.old).view.reading slot ≡ false }
@@ -124,7 +125,7 @@ impl<S: System + Drop> Desk for RealDesk<S> {
         ensures no_end { OnErr result ((⟦<RealDesk<S> as Asks>⟧.shown self.new).ended ≡ (⟦<RealDesk<S> as Asks>⟧.shown self.old).ended) }
         // On success the system was called once, and opened this name in the slot.
         ensures opens { let asked = ⟦<RealDesk<S> as Asks>⟧.asked in OnOk result (Opens slot name.now (asked self.old) (asked self.new)) }
-        // It fails iff the system gave none.
+        // The call fails iff the system gave no file.
         ensures refused { let asked = ⟦<RealDesk<S> as Asks>⟧.asked in OnErr result (asked self.new ≡ after (opens slot name.now None) (asked self.old)) }
     {
         match self.system.open(slot, name) {
@@ -138,6 +139,7 @@ impl<S: System + Drop> Desk for RealDesk<S> {
         }
     }
 
+    // Reads into the room; no byte into some room is the end of the file.
     fn read(&mut self, slot: u8, room: &mut [u8]) -> Result<usize, Failed>
         requires kind { slot < 5 }
         requires open { IsTrue ((⟦<RealDesk<S> as Asks>⟧.shown self.old).view.reading slot) }
@@ -153,7 +155,7 @@ impl<S: System + Drop> Desk for RealDesk<S> {
         // On success the system was called once, for this slot's file and so many bytes, and gave these; so the end is answered only if
         // the system said it.
         ensures given { let asked = ⟦<RealDesk<S> as Asks>⟧.asked in IfOk result (λ count. asked self.new ≡ after (reads slot (length room.old) (Some (take count room.new))) (asked self.old)) }
-        // It fails iff the system's read failed.
+        // The call fails iff the system's read failed.
         ensures refused { let asked = ⟦<RealDesk<S> as Asks>⟧.asked in OnErr result (asked self.new ≡ after (reads slot (length room.old) None) (asked self.old)) }
     {
         match self.system.read(slot, room) {
@@ -165,6 +167,7 @@ impl<S: System + Drop> Desk for RealDesk<S> {
         }
     }
 
+    // Opens the file and empties it, unless it is standard output or a file that a slot has or had last.
     fn create(&mut self, slot: u8, name: &str) -> Result<(), Failed>
         requires kind { slot < 2 }
         requires free { (⟦<RealDesk<S> as Asks>⟧.shown self.old).view.writing slot ≡ false }
@@ -176,7 +179,8 @@ impl<S: System + Drop> Desk for RealDesk<S> {
         // On success the system opened this name as it was, and then emptied the file. As far as the system says,
         // it is neither standard output nor a file last opened or made in a slot.
         ensures makes { let asked = ⟦<RealDesk<S> as Asks>⟧.asked in OnOk result (Makes slot name.now (asked self.old) (asked self.new)) }
-        // It fails iff the system gave no file, or did not empty it, or the file is one of those; in the last case it was not emptied.
+        // The call fails iff the system gave no file, or did not empty it, or the file is one of those; in the last case it was not
+        // emptied.
         ensures refused { let asked = ⟦<RealDesk<S> as Asks>⟧.asked in OnErr result (Refuses slot name.now (asked self.old) (asked self.new)) }
     {
         let Ok(id) = self.system.create(slot, name) else {
@@ -197,6 +201,7 @@ impl<S: System + Drop> Desk for RealDesk<S> {
         Ok(())
     }
 
+    // Writes a first part of the piece; no byte of a piece with some is a fault.
     fn write(&mut self, slot: u8, piece: &[u8]) -> Result<usize, Failed>
         requires kind { slot < 2 }
         requires open { IsTrue ((⟦<RealDesk<S> as Asks>⟧.shown self.old).view.writing slot) }
@@ -209,7 +214,7 @@ impl<S: System + Drop> Desk for RealDesk<S> {
         ensures unfinished { OnErr result ((⟦<RealDesk<S> as Asks>⟧.shown self.new).finished ≡ (⟦<RealDesk<S> as Asks>⟧.shown self.old).finished) }
         // On success the system was called once, with this slot's file and the piece, and took so many bytes.
         ensures took { let asked = ⟦<RealDesk<S> as Asks>⟧.asked in IfOk result (λ count. asked self.new ≡ after (writes slot piece.now (Some count)) (asked self.old)) }
-        // It fails iff the system's write failed, or took no byte of a piece that has some.
+        // The call fails iff the system's write failed, or took no byte of a piece that has some.
         ensures refused { let asked = ⟦<RealDesk<S> as Asks>⟧.asked in OnErr result ((asked self.new ≡ after (writes slot piece.now None) (asked self.old))
             ⊎ ((0 < length piece.now) × (asked self.new ≡ after (writes slot piece.now (Some 0)) (asked self.old)))) }
     {
@@ -223,6 +228,7 @@ impl<S: System + Drop> Desk for RealDesk<S> {
         }
     }
 
+    // Syncs the slot's file, and frees the slot.
     fn close(&mut self, slot: u8) -> Result<(), Failed>
         requires kind { slot < 2 }
         requires open { IsTrue ((⟦<RealDesk<S> as Asks>⟧.shown self.old).view.writing slot) }
@@ -231,7 +237,7 @@ impl<S: System + Drop> Desk for RealDesk<S> {
         ensures steady { IsSteady (⟦<RealDesk<S> as Asks>⟧.shown self.old) → OnErr result ⊥ }
         // On success the system had synced the slot's file.
         ensures synced { let asked = ⟦<RealDesk<S> as Asks>⟧.asked in OnOk result (asked self.new ≡ after (syncs slot (Some tt)) (asked self.old)) }
-        // It fails iff the system did not sync the file.
+        // The call fails iff the system did not sync the file.
         ensures refused { let asked = ⟦<RealDesk<S> as Asks>⟧.asked in OnErr result (asked self.new ≡ after (syncs slot None) (asked self.old)) }
     {
         match self.system.sync(slot) {
@@ -244,6 +250,7 @@ impl<S: System + Drop> Desk for RealDesk<S> {
         }
     }
 
+    // Prints a first part of the piece; no byte of a piece with some is a fault.
     fn say(&mut self, piece: &[u8]) -> Result<usize, Failed>
         ensures ok { IfOk result (λ count. Reaches (spoke (take count piece.now)) (⟦<RealDesk<S> as Asks>⟧.shown self.old) (⟦<RealDesk<S> as Asks>⟧.shown self.new)) }
         ensures failed { OnErr result (FailsToWrite same (⟦<RealDesk<S> as Asks>⟧.shown self.old) (⟦<RealDesk<S> as Asks>⟧.shown self.new)) }
@@ -251,7 +258,7 @@ impl<S: System + Drop> Desk for RealDesk<S> {
         ensures steady { IsSteady (⟦<RealDesk<S> as Asks>⟧.shown self.old) → OnErr result (LacksRoom words 1 (⟦<RealDesk<S> as Asks>⟧.shown self.old)) }
         // On success the system was called once, with the piece, and took so many bytes.
         ensures took { let asked = ⟦<RealDesk<S> as Asks>⟧.asked in IfOk result (λ count. asked self.new ≡ after (says piece.now (Some count)) (asked self.old)) }
-        // It fails iff the system's call failed, or took no byte of a piece that has some.
+        // The call fails iff the system's call failed, or took no byte of a piece that has some.
         ensures refused { let asked = ⟦<RealDesk<S> as Asks>⟧.asked in OnErr result ((asked self.new ≡ after (says piece.now None) (asked self.old))
             ⊎ ((0 < length piece.now) × (asked self.new ≡ after (says piece.now (Some 0)) (asked self.old)))) }
     {

@@ -20,7 +20,7 @@ pub trait System {
     /// Which file standard output is, if it is one.
     ghost output: { Self → Option FileId };
 
-    /// Which file standard output is: none where it is closed, a terminal or another device.
+    /// Returns the identity of standard output; `None` if it is closed, a terminal or another device.
     fn output(&self) -> Option<FileId>
         // The file is the one that standard output is, if it is one.
         ensures told { result ≡ output self.now };
@@ -78,7 +78,7 @@ pub trait System {
         // The files that are supposed stay.
         ensures files { files self.new ≡ files self.old };
 
-    /// Says a first part of the piece.
+    /// Prints a first part of the piece.
     fn say(&mut self, piece: &[u8]) -> Result<usize, Failed>
         // The call and its answer are added to the log of calls, if one is kept.
         ensures asked { calls self.new ≡ with_call (says piece.now (answered (λ count. count) result)) (calls self.old) }
