@@ -6,7 +6,7 @@ ghost use Rattle.pb_words.specs.inner.Commands.{rule_for};
 use clap::{Arg, ArgAction, ArgMatches};
 use std::alloc::Global;
 
-/// What a command takes, by the id under which it is read back.
+/// An argument of a command, with the id under which it is read back.
 pub enum Argument<'a> {
     /// A name, which has to be given.
     Name(&'a str),
@@ -20,7 +20,7 @@ pub enum Argument<'a> {
     Flag(&'a str),
 }
 
-/// The same in clap's own form.
+/// Returns the argument in clap's own form.
 pub fn arg_for<'a>(alloc: Global, argument: &Argument<'a>) -> Arg<'a>
     ensures rule { rule_of result ≡ rule_for argument.now }
     ensures local { result.global ≡ false }
@@ -34,14 +34,14 @@ pub fn arg_for<'a>(alloc: Global, argument: &Argument<'a>) -> Arg<'a>
     }
 }
 
-/// The word that an argument was given.
+/// Returns the word that an argument was given, if it was given one.
 pub fn word_of<'a>(given: &ArgMatches<'a>, id: &str) -> Option<&'a str>
     ensures { option_map (λ word. word.now) result ≡ first_of id.now (rows_of (found_of given.now)) }
 {
     given.get_str(id)
 }
 
-/// The words that an argument was given.
+/// Returns the words that an argument was given, if it was given any.
 pub fn words_of<'m, 'a>(given: &'m ArgMatches<'a>, id: &str) -> Option<&'m [&'a str]>
     ensures { option_map (λ words. map (λ word. word.now) words.now) result ≡ all_of id.now (rows_of (found_of given.now)) }
 {

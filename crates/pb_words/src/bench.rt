@@ -32,14 +32,14 @@ pub const COMMAND: Syntax<'static> = Syntax {
     ]],
 };
 
-// A number up to this one, in digits alone.
+// Returns the number of an argument, in digits alone, if it is at most `most`.
 fn number_in(given: &ArgMatches<'_>, id: &str, most: u32) -> Option<u32>
     ensures { result ≡ number_in most id.now (rows_of (found_of given.now)) }
 {
     short_within(word_of(given, id)?.as_bytes(), most)
 }
 
-/// What `bench` was asked for.
+/// Returns the arguments of `bench`, if a number is in its range.
 pub fn bench_args_in<'a>(given: &ArgMatches<'a>) -> Option<BenchArgs<'a>>
     ensures { option_map as_bench_words result ≡ bench_in (rows_of (found_of given.now)) }
 {

@@ -16,7 +16,7 @@ pub const BOUND: [Argument<'static>; 2] = [
     Argument::Valued("at-most-minus"),
 ];
 
-// The number that a word of digits spells, below 2^100.
+// Returns the number that a word of digits spells, if it is below 2^100.
 fn magnitude_of(word: &str) -> Option<i128>
     ensures value { result ≡ option_map pos (magnitude_of word.now) }
     ensures low { IfSome result (λ n. pos 0 ≤ℤ n) }
@@ -27,7 +27,7 @@ fn magnitude_of(word: &str) -> Option<i128>
     }
 }
 
-/// The bound that a command was given, if it was given one; none where it was given both.
+/// Returns the bound that a command was given, if any; the outer `None` says that it was given both kinds, or no number below 2^100.
 pub fn bound_in(given: &ArgMatches<'_>) -> Option<Option<i128>>
     ensures { result ≡ bound_in (rows_of (found_of given.now)) }
 {

@@ -34,7 +34,7 @@ pub const COMMAND: Syntax<'static> = Syntax {
     groups: &[&NAMES, &BOUND],
 };
 
-/// What `check` was asked for.
+/// Returns the arguments of `check`, if its names are different and its bound is one.
 pub fn check_args_in<'a>(given: &ArgMatches<'a>) -> Option<CheckArgs<'a>>
     ensures { option_map as_check_words result ≡ check_in (rows_of (found_of given.now)) }
 {

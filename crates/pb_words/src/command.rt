@@ -9,13 +9,13 @@ use crate::argument::{Argument, arg_for};
 use clap::Command;
 use std::alloc::{AllocError, Global};
 
-/// What a command is called, and what it takes, group by group.
+/// The name of a command, and its arguments, group by group.
 pub struct Syntax<'a> {
     pub name: &'a str,
     pub groups: &'a [&'a [Argument<'a>]],
 }
 
-// A command that takes these besides, in this order.
+// Adds arguments to a command, in this order.
 fn with_arguments<'a>(
     alloc: Global,
     mut command: Command<'a>,
@@ -29,7 +29,7 @@ fn with_arguments<'a>(
     Ok(command)
 }
 
-/// The command in clap's own form.
+/// Returns the command in clap's own form.
 pub fn command_of<'a>(alloc: Global, syntax: &Syntax<'a>) -> Result<Command<'a>, AllocError>
     ensures { IfOk result (IsCommand (app_for syntax.now)) }
 {

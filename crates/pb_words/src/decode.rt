@@ -25,7 +25,7 @@ pub const COMMAND: Syntax<'static> = Syntax {
     groups: &[&[Argument::Name("opb"), Argument::Name("model")], &BOUND],
 };
 
-/// What `decode` was asked for.
+/// Returns the arguments of `decode`, if its names are different and its bound is one.
 pub fn decode_args_in<'a>(given: &ArgMatches<'a>) -> Option<DecodeArgs<'a>>
     ensures { option_map as_decode_words result ≡ decode_in (rows_of (found_of given.now)) }
 {

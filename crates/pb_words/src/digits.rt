@@ -7,7 +7,7 @@ ghost use Rattle.pb_words.specs.Digits.{number_within};
 
 use pb_base::{Number, read_digits};
 
-/// The number that a word of digits spells, where it is from `least` to `most`.
+/// Returns the number that a word of digits spells, if it is from `least` to `most`.
 pub fn number_within(word: &[u8], least: u64, most: u64) -> Option<u64>
     ensures { result ≡ number_within least most word.now }
 {
@@ -17,7 +17,7 @@ pub fn number_within(word: &[u8], least: u64, most: u64) -> Option<u64>
     }
 }
 
-/// The same of numbers up to one of 32 bits.
+/// Returns the number that a word of digits spells, if it is at most `most`.
 pub fn short_within(word: &[u8], most: u32) -> Option<u32>
     ensures { result ≡ number_within 0 most word.now }
 {

@@ -43,7 +43,7 @@ pub const COMMAND: Syntax<'static> = Syntax {
     ],
 };
 
-// Two of the names are equal.
+// True if two of the names are equal.
 fn are_equal(opb: &str, cnf: &str, proof: Option<&str>) -> bool
     ensures { not result ≡ are_different (opb.now ∷ cnf.now ∷ option_to_list (option_copied proof.entry)) }
 {
@@ -53,7 +53,7 @@ fn are_equal(opb: &str, cnf: &str, proof: Option<&str>) -> bool
     }
 }
 
-/// What `encode` was asked for.
+/// Returns the arguments of `encode`, if its names are different, and its options and its bound are in their ranges.
 pub fn encode_args_in<'a>(given: &ArgMatches<'a>) -> Option<EncodeArgs<'a>>
     ensures { option_map as_encode_words result ≡ encode_in (rows_of (found_of given.now)) }
 {

@@ -5,7 +5,7 @@ ghost use Rattle.pb_words.specs.declared.fault.WordsFault.TheVariants.{NoMemory}
 use std::alloc::AllocError;
 use thiserror::Error;
 
-/// Why no request was taken from the words.
+/// The reason why the words are no request.
 #[derive(Clone, Copy, Debug, Error)]
 pub enum WordsFault {
     /// The words are none that the program takes.
@@ -19,6 +19,7 @@ pub enum WordsFault {
 impl From<AllocError> for WordsFault {
     ghost from_gives = { λ _ fault. fault ≡ NoMemory };
 
+    // Lets `?` report a refused allocation as want of memory.
     fn from(_: AllocError) -> Self {
         WordsFault::NoMemory
     }

@@ -21,14 +21,14 @@ use clap::ArgMatches;
 use clap::error::ErrorKind;
 use std::alloc::Global;
 
-// A request, where there is one.
+// Returns the request; `Usage` if there is none.
 fn asked<'a>(request: Option<Request<'a>>) -> Result<Request<'a>, WordsFault>
     ensures { Tells (option_map wanted_as request.entry) result }
 {
     request.ok_or(WordsFault::Usage)
 }
 
-// What `probe` was asked for.
+// Returns the request of `probe`; `Usage` if a literal is none.
 fn probe_request<'a>(alloc: Global, given: &ArgMatches<'a>) -> Result<Request<'a>, WordsFault>
     ensures { Tells (option_map Probe (probe_in (rows_of (found_of given.now)))) result }
 {
@@ -38,7 +38,7 @@ fn probe_request<'a>(alloc: Global, given: &ArgMatches<'a>) -> Result<Request<'a
     }
 }
 
-// What a command of this name was asked for.
+// Returns the request of a command, by its name and its arguments.
 fn request_in<'a>(
     alloc: Global,
     name: &str,
@@ -60,7 +60,7 @@ fn request_in<'a>(
     }
 }
 
-// What the command that was given was asked for.
+// Returns the request of the command that was given; `Usage` if none was.
 fn request_by<'a>(alloc: Global, matches: &ArgMatches<'a>) -> Result<Request<'a>, WordsFault>
     ensures { Tells (option_and_then wanted_in (subcommand_rows_of matches.now)) result }
 {
@@ -70,7 +70,7 @@ fn request_by<'a>(alloc: Global, matches: &ArgMatches<'a>) -> Result<Request<'a>
     }
 }
 
-// Words that clap does not take are none of the program's, unless memory was wanting.
+// Returns the fault of words that clap refuses: `Usage`, unless memory ran out.
 fn fault_of(error: &clap::Error) -> WordsFault
     ensures usage { result ≡ WordsFault.Usage → kind_of error.now ≢ ErrorKind.OutOfMemory }
     ensures memory { result ≡ WordsFault.NoMemory → kind_of error.now ≡ ErrorKind.OutOfMemory }
@@ -82,8 +82,12 @@ fn fault_of(error: &clap::Error) -> WordsFault
     }
 }
 
-/// What the words ask for; they begin with the program's name. `Usage` where they are none that
-/// the program takes.
+/// Returns the request that the words make; they begin with the program's name. `Usage` if they make none.
+///
+/// ```text
+/// pbcnf encode a.opb a.cnf --budget 9     Encode, with the budget 9
+/// pbcnf encode a.opb a.opb                Usage, since the names are equal
+/// ```
 pub fn parse<'a>(alloc: Global, words: &'a [String]) -> Result<Request<'a>, WordsFault>
     // A request is exactly the one that the words make by the definition.
     ensures asked { IfOk result (λ r. parsed_of (map string_bytes words.entry.now) ≡ Some (wanted_as r)) }

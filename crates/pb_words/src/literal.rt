@@ -6,7 +6,7 @@ use crate::fault::WordsFault;
 use pb_base::{Lit, LitWord, Lits, read_literal};
 use std::alloc::Global;
 
-/// The literal that a word is, of a variable up to 2^31 - 1.
+/// Reads a word as a literal of a variable up to 2^31 - 1, as `x3` or `~x3`.
 pub fn lit_in(word: &[u8]) -> Option<Lit>
     ensures { result ≡ lit_in word.now }
 {
@@ -16,7 +16,7 @@ pub fn lit_in(word: &[u8]) -> Option<Lit>
     }
 }
 
-/// The literals that words are; `Usage` where one of them is none.
+/// Reads words as literals; `Usage` if one of them is none.
 pub fn lits_in(alloc: Global, words: &[&str]) -> Result<Lits, WordsFault>
     ensures asked { IfOk result (λ lits. lits_in (map (λ word. word.now) words.now) ≡ Some lits) }
     ensures usage { IsErrOf result WordsFault.Usage → lits_in (map (λ word. word.now) words.now) ≡ None }

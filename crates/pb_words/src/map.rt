@@ -20,7 +20,7 @@ pub const COMMAND: Syntax<'static> = Syntax {
     groups: &[&[Argument::Name("opb")]],
 };
 
-/// What `map` was asked for.
+/// Returns the arguments of `map`.
 pub fn map_args_in<'a>(given: &ArgMatches<'a>) -> Option<MapArgs<'a>>
     ensures { option_map as_map_words result ≡ map_in (rows_of (found_of given.now)) }
 {

@@ -34,7 +34,7 @@ pub const COMMAND: Syntax<'static> = Syntax {
     ]],
 };
 
-/// What `optimum` was asked for: five different names.
+/// Returns the arguments of `optimum`, if its five names are different.
 pub fn optimum_args_in<'a>(given: &ArgMatches<'a>) -> Option<OptimumArgs<'a>>
     ensures { option_map as_optimum_words result ≡ optimum_in (rows_of (found_of given.now)) }
 {

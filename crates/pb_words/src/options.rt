@@ -40,7 +40,7 @@ const GENERAL: [(&str, General); 3] = [
 
 const EQUAL: [(&str, EqualMode); 2] = [("split", EqualMode::Split), ("joint", EqualMode::Joint)];
 
-// What stands beside a word.
+// Returns the value of a word in a table of words.
 fn find_word<T: Copy>(values: &[(&str, T)], word: &str) -> Option<T>
     ensures { result ≡ find_word (map (λ value. (value.0.now, value.1)) values.now) word.now }
 {
@@ -52,7 +52,7 @@ fn find_word<T: Copy>(values: &[(&str, T)], word: &str) -> Option<T>
     None
 }
 
-// What the option of this name says, or the default where it is not given.
+// Returns the value of the option with this id, or the default if it is not given; `None` if its word has no value.
 fn option_in<T: Copy>(
     given: &ArgMatches<'_>,
     id: &str,
@@ -67,6 +67,7 @@ fn option_in<T: Copy>(
     }
 }
 
+// Returns the budget, or the default if it is not given; `None` unless it is from 1 to 10,000,000.
 fn budget_in(given: &ArgMatches<'_>) -> Option<u64>
     ensures { result ≡ option_in (codes "budget") (number_within 1 10000000) default_options.budget (rows_of (found_of given.now)) }
 {
@@ -76,7 +77,7 @@ fn budget_in(given: &ArgMatches<'_>) -> Option<u64>
     }
 }
 
-/// The options that a command was given.
+/// Returns the options that a command was given, if each is in its range.
 #[tactic(auto, using(crate::proofs::OptionLemmas::budget_range))]
 pub fn options_in(given: &ArgMatches<'_>) -> Option<Options>
     ensures { result ≡ options_in (rows_of (found_of given.now)) }

@@ -27,7 +27,7 @@ pub const COMMAND: Syntax<'static> = Syntax {
     groups: &[&[Argument::Name("cnf"), Argument::Words("lits")]],
 };
 
-// The literals that were given; `Usage` where one of the words is none.
+// Returns the literals that were given; `Usage` if one of the words is none.
 fn given_lits(alloc: Global, given: &ArgMatches<'_>) -> Result<Lits, WordsFault>
     ensures asked { IfOk result (λ lits. lits_in (unwrap_or (all_of (codes "lits") (rows_of (found_of given.now))) []) ≡ Some lits) }
     ensures usage { IsErrOf result WordsFault.Usage → lits_in (unwrap_or (all_of (codes "lits") (rows_of (found_of given.now))) []) ≡ None }
@@ -38,7 +38,7 @@ fn given_lits(alloc: Global, given: &ArgMatches<'_>) -> Result<Lits, WordsFault>
     }
 }
 
-/// What `probe` was asked for; `Usage` where it was not asked so.
+/// Returns the arguments of `probe`; `Usage` if a word is no literal.
 pub fn probe_args_in<'a>(alloc: Global, given: &ArgMatches<'a>) -> Result<ProbeArgs<'a>, WordsFault>
     ensures asked { IfOk result (λ p. probe_in (rows_of (found_of given.now)) ≡ Some (as_probe_words p)) }
     ensures usage { IsErrOf result WordsFault.Usage → probe_in (rows_of (found_of given.now)) ≡ None }

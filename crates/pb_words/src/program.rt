@@ -21,7 +21,7 @@ const COMMANDS: [Syntax<'static>; 9] = [
     optimum::COMMAND,
 ];
 
-// The program without its commands: one has to be given, and there is no help or version.
+// Makes the program without its commands: one has to be given, and there is no help or version.
 fn bare<'a>(alloc: Global) -> Command<'a>
     ensures { IsCommand (bare_program (codes "pbcnf")) result }
 {
@@ -32,7 +32,7 @@ fn bare<'a>(alloc: Global) -> Command<'a>
         .subcommand_required(true)
 }
 
-// The program with one more command, where there was memory for that.
+// Adds a command to the program, if there was memory for both.
 fn with_command<'a>(
     program: Command<'a>,
     command: Result<Command<'a>, AllocError>,
@@ -43,7 +43,7 @@ fn with_command<'a>(
     program.subcommand(command)
 }
 
-/// The program with its commands, in this order.
+/// Makes the program with its commands, in this order.
 pub fn program<'a>(alloc: Global) -> Result<Command<'a>, AllocError>
     ensures { IfOk result (IsCommand program_app) }
 {

@@ -24,7 +24,7 @@ pub const COMMAND: Syntax<'static> = Syntax {
     groups: &[&NAMES, &[Argument::Name("lrat")], &BOUND],
 };
 
-/// What `refute` was asked for: what `check` is asked for, and a refutation.
+/// Returns the arguments of `refute`: those of `check`, and a refutation of another name.
 pub fn refute_args_in<'a>(given: &ArgMatches<'a>) -> Option<RefuteArgs<'a>>
     ensures { option_map as_refute_words result ≡ refute_in (rows_of (found_of given.now)) }
 {

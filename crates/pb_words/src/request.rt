@@ -9,7 +9,7 @@ use crate::probe::ProbeArgs;
 use crate::refute::RefuteArgs;
 use crate::wcnf::WcnfArgs;
 
-/// What the words ask for: one of the program's commands.
+/// A command of the program with its arguments.
 #[derive(Drop)]
 pub enum Request<'a> {
     /// Encode a problem.

@@ -11,7 +11,7 @@ use pb_base::Options;
 /// The option by which a command takes a table of bounds.
 pub const TABLE: [Argument<'static>; 1] = [Argument::Flag("table")];
 
-// Whether a command was given `--table`.
+// True if the command was given `--table`.
 fn table_in(given: &ArgMatches<'_>) -> bool
     ensures { result ≡ table_in (rows_of (found_of given.now)) }
 {
@@ -21,7 +21,7 @@ fn table_in(given: &ArgMatches<'_>) -> bool
     }
 }
 
-/// The options that a command was given, with a table if it was asked for one.
+/// Returns the options that a command was given, with a table if `--table` is among them.
 pub fn tabled_in(given: &ArgMatches<'_>) -> Option<Options>
     ensures { result ≡ tabled_in (rows_of (found_of given.now)) }
 {

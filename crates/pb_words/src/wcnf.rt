@@ -33,7 +33,7 @@ pub const COMMAND: Syntax<'static> = Syntax {
     ],
 };
 
-/// What `wcnf` was asked for.
+/// Returns the arguments of `wcnf`, if its names are different, and its options and its bound are in their ranges.
 pub fn wcnf_args_in<'a>(given: &ArgMatches<'a>) -> Option<WcnfArgs<'a>>
     ensures { option_map as_wcnf_words result ≡ wcnf_in (rows_of (found_of given.now)) }
 {
