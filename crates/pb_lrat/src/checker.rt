@@ -48,14 +48,15 @@ impl Model for LratChecker {
     ghost invariant = { λ c. (c.vars < 2 ^ 31) × (c.trail ≡ []) };
 }
 
-// Whether a clause has no literal.
+// True if the clause has no literal.
 fn is_nothing(clause: &[Lit]) -> bool
     ensures { result ≡ is_nothing clause.now }
 {
     clause.is_empty()
 }
 
-// The clauses of a CNF with their ids, and whether one of them has no literal. Each is given up once it is kept.
+// Stores the clauses of a CNF under their ids, from 1 on, and returns whether one of them has no literal. Each clause is given up once it
+// is stored.
 fn store_with_ids(alloc: Global, clauses: Clauses) -> Result<(Store, bool), NoMemory>
     ensures store { IfOk result (λ p. p.0 ≡ record { last = length clauses; live = numbered 1 clauses }) }
     ensures empty { IfOk result (λ p. p.1 ≡ list_any is_nothing clauses) }
@@ -71,7 +72,8 @@ fn store_with_ids(alloc: Global, clauses: Clauses) -> Result<(Store, bool), NoMe
 }
 
 impl LratChecker {
-    /// A checker over the clauses of a CNF, whose ids are 1 and on, in order. Literals of lines are of the first so many variables.
+    /// Makes a checker over the clauses of a CNF, whose ids are 1 and on, in order. Literals of lines have to be of the first `vars`
+    /// variables.
     pub fn new(alloc: Global, vars: u32, clauses: Clauses) -> Result<LratChecker, NoMemory>
         requires { vars < 2 ^ 31 }
         // The checker has the clauses under the ids from 1 on, and knows whether one is empty.
@@ -87,7 +89,7 @@ impl LratChecker {
         })
     }
 
-    // Why a clause may not be added, if so.
+    // Returns why a clause may not be added, if so.
     fn denial_of(
         &mut self,
         id: u64,
@@ -119,7 +121,8 @@ impl LratChecker {
         Ok(())
     }
 
-    /// Takes the next line, without its LF, or tells its first fault or why its clause may not be added. After a fault nothing has changed.
+    /// Reads the next line, without its LF, and adds or deletes clauses; or answers its first fault, or why its clause may not be added.
+    /// After a fault nothing has changed.
     pub fn line(&mut self, bytes: &[u8]) -> Result<(), LratFault>
         // After `Ok` the state is the one that the line makes.
         ensures ok { OnOk result (after_line self.old bytes.now ≡ Ok self.new) }
@@ -139,7 +142,7 @@ impl LratChecker {
         }
     }
 
-    /// Whether the CNF had an empty clause or a line added one.
+    /// True if the CNF had an empty clause or a line added one.
     pub fn finish(&self) -> bool
         // The answer is true iff the CNF had an empty clause or a line added one.
         ensures { result ≡ self.now.refuted }

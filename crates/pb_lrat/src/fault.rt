@@ -27,6 +27,7 @@ impl From<StepFault> for LratFault {
 
     ghost from_gives = { λ f e. e ≡ fault_of f };
 
+    // Lets `?` report the fault of a line's words, at their columns.
     fn from(fault: StepFault) -> Self {
         match fault {
             StepFault::Token { column, expected } => LratFault::Token { column, expected },
@@ -42,6 +43,7 @@ impl From<NoMemory> for LratFault {
 
     ghost from_gives = { λ _ e. e ≡ fault.NoMemory };
 
+    // Lets `?` pass on that memory ran out.
     fn from(_: NoMemory) -> Self {
         LratFault::NoMemory
     }

@@ -13,7 +13,7 @@ use crate::store::Store;
 use crate::trail::Trail;
 use pb_base::{Lit, NoMemory};
 
-// What is left of a clause once its false literals are taken out.
+// The literals of a clause that are not false: none, a single one, or more.
 #[derive(Clone, Copy)]
 pub(crate) enum ClauseStatus {
     Nothing,
@@ -21,7 +21,7 @@ pub(crate) enum ClauseStatus {
     More,
 }
 
-// Has each literal of a clause be false. False where two of them are opposite.
+// Makes each literal of a clause false. False if two of them are opposite.
 fn falsify(clause: &[Lit], trail: &mut Trail) -> Result<bool, NoMemory>
     requires { trail.old ≡ [] }
     ensures apart { IfOk result (λ apart. apart ≡ not (is_tautology clause.now)) }
@@ -35,7 +35,7 @@ fn falsify(clause: &[Lit], trail: &mut Trail) -> Result<bool, NoMemory>
     Ok(true)
 }
 
-// What is left with one more literal.
+// Returns the status with one more literal that is not false; a repeated literal changes nothing.
 fn with_one(left: ClauseStatus, lit: &Lit) -> ClauseStatus
     ensures { result ≡ left_with left lit.now }
 {
@@ -51,7 +51,7 @@ fn with_one(left: ClauseStatus, lit: &Lit) -> ClauseStatus
     }
 }
 
-// The same, unless the literal is false.
+// Returns the status with the next literal of the clause, which changes nothing if it is false.
 fn with_next(left: ClauseStatus, lit: &Lit, trail: &Trail) -> ClauseStatus
     ensures { result ≡ (if is_among trail.now (negated lit.now) then left else left_with left lit.now) }
 {
@@ -61,7 +61,7 @@ fn with_next(left: ClauseStatus, lit: &Lit, trail: &Trail) -> ClauseStatus
     with_one(left, lit)
 }
 
-// What is left of a clause.
+// Returns the status of a clause: its literals that are not false.
 fn status_in(clause: &[Lit], trail: &Trail) -> ClauseStatus
     ensures kind { result ≡ kind_of (left_of trail.now clause.now) }
     ensures undecided { (l : Lit) → result ≡ ClauseStatus.Single l → is_among trail.now (negated l) ≡ false }
@@ -76,7 +76,7 @@ fn status_in(clause: &[Lit], trail: &Trail) -> ClauseStatus
     left
 }
 
-// Has a single literal that is left of a clause be true. Whether none is left.
+// Makes the literal true that alone is not false, if there is just one. True if all literals of the clause are false.
 fn propagate_hint(clause: &[Lit], trail: &mut Trail) -> Result<bool, NoMemory>
     ensures conflict { IfOk result (λ none. none ≡ is_nothing (left_of trail.old clause.now)) }
     ensures single { OnOk result (trail.new ≡ with_single trail.old (left_of trail.old clause.now)) }
@@ -91,7 +91,8 @@ fn propagate_hint(clause: &[Lit], trail: &mut Trail) -> Result<bool, NoMemory>
     }
 }
 
-// Why hints do not allow a clause, once some literals are true. A clause may be allowed by itself; its hints must be live all the same.
+// Returns why hints do not allow a clause, once some literals are true. A clause may be allowed by itself; its hints must be live all the
+// same.
 fn denied_by(
     hints: &[u64],
     store: &Store,
@@ -115,7 +116,7 @@ fn denied_by(
     Ok(Some(LratDenied::NoConflict))
 }
 
-/// Why a clause does not follow by hints. What is left in the trail is of no use.
+/// Returns why a clause does not follow by its hints. The trail is left as it happens to be.
 pub(crate) fn denial_of(
     clause: &[Lit],
     hints: &[u64],

@@ -27,7 +27,7 @@ impl Model for Page {
     ghost view = { λ p. p.values.items };
 }
 
-// Has so many values, if there are fewer.
+// Extends the values to so many, if there are fewer.
 fn fill(values: &mut Vec<Option<bool>>, size: usize) -> Result<(), NoMemory>
     ensures same { (w : ℕ) → slice_index_or values.new.items w None ≡ slice_index_or values.old.items w None }
     ensures filled { OnOk result (size ≤ length values.new.items) }
@@ -41,6 +41,7 @@ fn fill(values: &mut Vec<Option<bool>>, size: usize) -> Result<(), NoMemory>
 }
 
 impl Page {
+    // Makes a page without values, which takes no memory.
     fn new(alloc: Global) -> Page
         ensures { result ≡ [] }
     {
@@ -49,6 +50,7 @@ impl Page {
         }
     }
 
+    // Returns the value at a position of the page, if there is one.
     fn get(&self, at: usize) -> Option<bool>
         ensures { result ≡ slice_index_or self.now at None }
     {
@@ -58,6 +60,7 @@ impl Page {
         }
     }
 
+    // Sets the value at a position of a page that has room for its values.
     fn set(&mut self, at: usize, value: bool)
         requires { at < length self.old }
         ensures here { slice_index_or self.new at None ≡ Some value }
@@ -67,7 +70,7 @@ impl Page {
         self.values[at] = Some(value);
     }
 
-    // The same, where the page may be empty.
+    // Sets the value at a position, and makes room for the page's values first if it has none.
     fn put(&mut self, at: usize, value: bool) -> Result<(), NoMemory>
         requires { at < 65536 }
         ensures here { OnOk result (slice_index_or self.new at None ≡ Some value) }
@@ -80,6 +83,7 @@ impl Page {
         Ok(())
     }
 
+    // Removes the value at a position, if there is one.
     fn forget(&mut self, at: usize)
         ensures here { slice_index_or self.new at None ≡ None }
         ensures others { (w : ℕ) → w ≢ at → slice_index_or self.new w None ≡ slice_index_or self.old w None }
@@ -105,7 +109,7 @@ impl Model for Marks {
     ghost view = { λ m. m.pages.items };
 }
 
-// Has a page of a number.
+// Adds pages up to the one of this number, from 0.
 fn reach(alloc: Global, pages: &mut Vec<Page>, number: usize) -> Result<(), NoMemory>
     requires { number < 65536 }
     ensures same { (n : ℕ) → slice_index_or pages.new.items n [] ≡ slice_index_or pages.old.items n [] }
@@ -118,7 +122,7 @@ fn reach(alloc: Global, pages: &mut Vec<Page>, number: usize) -> Result<(), NoMe
 }
 
 impl Marks {
-    // No values.
+    // Starts without values.
     pub(crate) fn new(alloc: Global) -> Marks
         ensures { result ≡ [] }
     {
@@ -128,7 +132,7 @@ impl Marks {
         }
     }
 
-    // The value of a variable.
+    // Returns the value of a variable, if it has one.
     pub(crate) fn get(&self, var: u32) -> Option<bool>
         ensures { result ≡ value_at self.now var }
     {
@@ -139,7 +143,7 @@ impl Marks {
         }
     }
 
-    // Has a variable have a value.
+    // Gives a variable a value.
     pub(crate) fn set(&mut self, var: u32, value: bool) -> Result<(), NoMemory>
         ensures here { OnOk result (value_at self.new var ≡ Some value) }
         ensures others { (v : ℕ) → v ≢ var → value_at self.new v ≡ value_at self.old v }
@@ -151,7 +155,7 @@ impl Marks {
         self.pages[number].put(var % PAGE, value)
     }
 
-    // Has a variable have no value.
+    // Takes the value of a variable away.
     pub(crate) fn forget(&mut self, var: u32)
         ensures here { value_at self.new var ≡ None }
         ensures others { (v : ℕ) → v ≢ var → value_at self.new v ≡ value_at self.old v }

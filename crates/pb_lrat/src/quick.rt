@@ -22,7 +22,7 @@ use std::alloc::{AllocError, Global};
 // For how many literals room is made at once.
 const MOST: usize = 1 << 12;
 
-// A number from 1 to a greatest one by its digits at the front, and how many these are.
+// Reads a number from 1 to `most` by the digits at the front, and returns how many these are.
 fn number_to(most: u64, bytes: &[u8]) -> Option<(u64, usize)>
     ensures number { IfSome result (λ r. IsNumberAt bytes.now r.0 r.1) }
     ensures low { IfSome result (λ r. 1 ≤ r.0) }
@@ -35,7 +35,7 @@ fn number_to(most: u64, bytes: &[u8]) -> Option<(u64, usize)>
     Some((number, count))
 }
 
-// One of the first so many variables.
+// Reads one of the first `vars` variables.
 fn var_at(vars: u32, word: &[u8]) -> Option<(Var, usize)>
     requires { vars < 2 ^ 31 }
     ensures number { IfSome result (λ r. IsNumberAt word.now r.0 r.1) }
@@ -46,7 +46,7 @@ fn var_at(vars: u32, word: &[u8]) -> Option<(Var, usize)>
     Some((Var::new(number as u32), count))
 }
 
-// A negated literal behind a blank, and how many bytes both take.
+// Reads a negated literal after a blank, and returns how many bytes both take.
 fn negated_at(vars: u32, left: &[u8]) -> Option<(Lit, usize)>
     requires { vars < 2 ^ 31 }
     ensures short { IfSome result (λ r. IsShort left.now (integer (literal_number r.0) ∷ []) r.1) }
@@ -60,7 +60,7 @@ fn negated_at(vars: u32, left: &[u8]) -> Option<(Lit, usize)>
     Some((Lit { var, positive }, count + 2))
 }
 
-// A literal.
+// Reads a literal after a blank, and returns how many bytes both take.
 fn literal_at(vars: u32, left: &[u8]) -> Option<(Lit, usize)>
     requires { vars < 2 ^ 31 }
     ensures short { IfSome result (λ r. IsShort left.now (integer (literal_number r.0) ∷ []) r.1) }
@@ -75,13 +75,13 @@ fn literal_at(vars: u32, left: &[u8]) -> Option<(Lit, usize)>
     Some((Lit { var, positive }, count + 1))
 }
 
-// How much room is made for the literals of a clause before any of them is read: a word is four bytes with its blank or more, most are, and half
-// of what is left are hints. It is a guess.
+// Guesses how many literals to make room for before a clause is read: an eighth of the bytes. A word with its blank has four bytes or
+// more, and half of the words are hints.
 fn room_in(left: &[u8]) -> usize {
     (left.len() / 8).min(MOST)
 }
 
-// The literals at the front, and how many bytes they take.
+// Reads the literals at the front, and returns how many bytes they take.
 fn lits_at(alloc: Global, vars: u32, left: &[u8]) -> Result<(Clause, usize), AllocError>
     requires { vars < 2 ^ 31 }
     ensures within { IfOk result (λ r. r.1 ≤ length left.now) }
@@ -97,7 +97,7 @@ fn lits_at(alloc: Global, vars: u32, left: &[u8]) -> Result<(Clause, usize), All
     Ok((Clause::from_vec(lits), at))
 }
 
-// The ids up to a 0 with which the line ends.
+// Reads the ids up to a 0 with which the line ends.
 fn ids_behind(alloc: Global, left: &[u8]) -> Result<Option<Ids>, AllocError>
     ensures spelled { IfOk result (λ found. IfSome found (λ ids. SpellAll (texts (words_of left.now)) (id_symbols ids))) }
     ensures each { IfOk result (λ found. IfSome found (AllByRecursion IsId)) }
@@ -110,7 +110,7 @@ fn ids_behind(alloc: Global, left: &[u8]) -> Result<Option<Ids>, AllocError>
     }
 }
 
-// A clause, and its hints.
+// Reads a clause and its hints.
 fn addition_behind(
     alloc: Global,
     vars: u32,
@@ -131,7 +131,7 @@ fn addition_behind(
     Ok(Some(Said::Adds { id, clause, hints }))
 }
 
-// The ids of clauses that are deleted, behind their mark.
+// Reads the ids of clauses that are deleted, after their mark.
 fn deletion_behind(
     alloc: Global,
     vars: u32,
@@ -148,7 +148,7 @@ fn deletion_behind(
     Ok(Some(Said::Deletes(ids)))
 }
 
-/// What a line says, where it is in the usual layout.
+/// Reads a line in the usual layout, in one pass; `None` if it is in another, which is read by its words.
 pub(crate) fn quick_line(alloc: Global, vars: u32, line: &[u8]) -> Result<Option<Said>, AllocError>
     requires { vars < 2 ^ 31 }
     ensures { IfOk result (λ found. IfSome found (λ said. said_of vars line.now ≡ Ok said)) }

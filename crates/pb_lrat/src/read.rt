@@ -16,7 +16,7 @@ use pb_base::{Clause, Expected, Ids, Word, Words, words};
 use pb_steps::{StepFault, id_in, token_fault};
 use std::alloc::Global;
 
-// Nothing follows the ids.
+// Returns the ids, if no word follows them.
 fn end_ids(words: &mut Words<'_>, ids: Ids) -> Result<Ids, StepFault>
     ensures ok { IfOk result (λ made. (made ≡ ids) × (ends_here {A = List ℕ} Expected.LratEnd [] words.old ≡ Ok [])) }
     ensures err { IfErr result (λ fault. ends_here {A = List ℕ} Expected.LratEnd [] words.old ≡ Err fault) }
@@ -27,7 +27,7 @@ fn end_ids(words: &mut Words<'_>, ids: Ids) -> Result<Ids, StepFault>
     }
 }
 
-/// The ids that words are, up to a 0 that ends the line.
+/// Reads words as ids, up to a 0 that ends the line.
 fn read_ids(alloc: Global, words: Words<'_>, end: u64) -> Result<Ids, StepFault>
     ensures ok { IfOk result (λ ids. ids_of end words.entry ≡ Ok ids) }
     ensures err { IfErr result (IsFaultOf (ids_of end words.entry)) }
@@ -43,7 +43,7 @@ fn read_ids(alloc: Global, words: Words<'_>, end: u64) -> Result<Ids, StepFault>
     Err(token_fault(end, Expected::LratHint))
 }
 
-/// The literals that words are, up to a 0, which is taken.
+/// Reads words as literals, up to a 0, which is read too.
 fn read_clause(
     alloc: Global,
     vars: u32,
@@ -67,6 +67,7 @@ fn read_clause(
     Ok(clause)
 }
 
+// Reads a line that adds a clause: its literals and a 0, hints and a 0.
 fn read_addition(
     alloc: Global,
     vars: u32,
@@ -85,6 +86,7 @@ fn read_addition(
     Ok(Said::Adds { id, clause, hints })
 }
 
+// Reads a line that deletes clauses: their ids and a 0.
 fn read_deletion(alloc: Global, words: Words<'_>, end: u64) -> Result<Said, StepFault>
     ensures ok { IfOk result (λ said. and_then (λ ids. Ok (Said.Deletes ids)) (ids_of end words.entry) ≡ Ok said) }
     ensures err { IfErr result (IsFaultOf (and_then (λ ids. Ok (Said.Deletes ids)) (ids_of end words.entry))) }
@@ -92,7 +94,7 @@ fn read_deletion(alloc: Global, words: Words<'_>, end: u64) -> Result<Said, Step
     Ok(Said::Deletes(read_ids(alloc, words, end)?))
 }
 
-// What stands behind the line's id.
+// Reads what follows the line's id.
 fn read_behind(
     alloc: Global,
     vars: u32,
@@ -114,13 +116,14 @@ fn read_behind(
     read_addition(alloc, vars, id, word, words, end)
 }
 
+// True if the line begins with `c`.
 fn opens_comment(text: &[u8]) -> bool
     ensures { result ≡ opens_comment text.now }
 {
     matches!(text, [b'c', ..])
 }
 
-// What a line says over so many variables, by its words.
+// Reads a line by its words, over the first `vars` variables.
 fn read_words(alloc: Global, vars: u32, line: &[u8]) -> Result<Said, StepFault>
     requires vars { vars < 2 ^ 31 }
     ensures ok { IfOk result (λ said. said_of vars line.now ≡ Ok said) }
@@ -137,7 +140,7 @@ fn read_words(alloc: Global, vars: u32, line: &[u8]) -> Result<Said, StepFault>
     read_behind(alloc, vars, id, words, line.len() as u64 + 1)
 }
 
-/// What a line says over so many variables, in one pass where it is in the usual layout.
+/// Reads a line over the first `vars` variables, in one pass if it is in the usual layout.
 pub(crate) fn read_line(alloc: Global, vars: u32, line: &[u8]) -> Result<Said, StepFault>
     requires vars { vars < 2 ^ 31 }
     ensures ok { IfOk result (λ said. said_of vars line.now ≡ Ok said) }

@@ -44,12 +44,13 @@ impl From<NoMemory> for RefuteFault {
 
     ghost from_gives = { λ _ e. e ≡ fault.NoMemory };
 
+    // Lets `?` pass on that memory ran out.
     fn from(_: NoMemory) -> Self {
         RefuteFault::NoMemory
     }
 }
 
-/// The fault of the line of a number.
+/// Returns the fault of the line of this number, from 1.
 pub(crate) fn of_lrat(number: u64, fault: LratFault) -> RefuteFault
     ensures { result ≡ of_lrat number fault }
 {
@@ -73,7 +74,7 @@ pub(crate) fn of_lrat(number: u64, fault: LratFault) -> RefuteFault
     }
 }
 
-/// The fault of a line that was not read.
+/// Returns the fault of a line that was not read.
 pub(crate) fn of_line(fault: LineFault) -> RefuteFault
     ensures { result ≡ of_line fault }
 {

@@ -18,7 +18,7 @@ const LIMITS: LineLimits = LineLimits {
     lines: MAX_LINES,
 };
 
-// Takes the lines that are left, to the end of the text.
+// Checks the lines that are unread, to the end of the text.
 fn take_lines<D: Desk>(
     desk: &mut D,
     lines: &mut LineReader,
@@ -54,7 +54,8 @@ fn take_lines<D: Desk>(
     }
 }
 
-/// Goes through what an open slot has left, as an LRAT refutation of clauses over so many variables. Of the text nothing is kept but a line.
+/// Checks the unread text of an open slot as an LRAT refutation of clauses over so many variables. Of the text nothing is kept but a
+/// line.
 pub fn refute<D: Desk>(
     alloc: Global,
     desk: &mut D,

@@ -14,7 +14,7 @@ use pb_base::{Lit, NoMemory};
 use std::alloc::Global;
 use std::marker::Model;
 
-/// Where the literals of a clause stand among all literals.
+/// The range of a clause's literals among the literals of all clauses, `end` excluded.
 #[derive(Clone, Copy)]
 pub(crate) struct Span {
     pub start: usize,
@@ -43,7 +43,7 @@ impl Model for Store {
     ghost invariant = { λ s. IsStore s.lits.items s.ids.items s.spans.items s.last };
 }
 
-// A place, if an id stands there.
+// Returns the position, if the id there is this one.
 fn stands_at(ids: &[u64], id: u64, place: usize) -> Option<usize>
     ensures within { IfSome result (λ i. i < length ids.now) }
     ensures at { IfSome result (λ i. slice_index_or ids.now i 0 ≡ id) }
@@ -55,7 +55,7 @@ fn stands_at(ids: &[u64], id: u64, place: usize) -> Option<usize>
     }
 }
 
-// Where an id stands if none is missing before it, or none behind it, as is mostly so.
+// Finds an id at the position that it has if no id before it, or none after it, is missing, as is mostly so.
 fn likely_place(ids: &[u64], id: u64) -> Option<usize>
     ensures within { IfSome result (λ i. i < length ids.now) }
     ensures at { IfSome result (λ i. slice_index_or ids.now i 0 ≡ id) }
@@ -68,7 +68,7 @@ fn likely_place(ids: &[u64], id: u64) -> Option<usize>
     stands_at(ids, id, ids.len().wrapping_sub(1).wrapping_sub(later))
 }
 
-// Where an id stands among ids that ascend.
+// Finds the position of an id among ascending ids.
 fn place_of(ids: &[u64], id: u64) -> Option<usize>
     requires ascending { (i j : ℕ) → i < j → j < length ids.now → slice_index_or ids.now i 0 < slice_index_or ids.now j 0 }
     ensures within { IfSome result (λ i. i < length ids.now) }
@@ -84,7 +84,7 @@ fn place_of(ids: &[u64], id: u64) -> Option<usize>
     }
 }
 
-// The literals of a place.
+// Returns the literals of a span.
 fn literals_at(lits: &[Lit], span: Span) -> &[Lit]
     requires order { span.start ≤ span.end }
     requires within { span.end ≤ length lits.now }
@@ -93,7 +93,7 @@ fn literals_at(lits: &[Lit], span: Span) -> &[Lit]
     &lits[span.start..span.end]
 }
 
-// How much of the lists a clause takes: its literals, and its id.
+// Returns how many entries of the lists a clause takes: its literals, and its id.
 fn room_of(span: Option<Span>) -> usize {
     match span {
         None => 0,
@@ -101,7 +101,7 @@ fn room_of(span: Option<Span>) -> usize {
     }
 }
 
-// One more id, for which there is room.
+// Appends an id, for which there is room.
 fn append_id(ids: &mut Vec<u64>, id: u64)
     requires { vec_len ids.old < vec_capacity ids.old }
     ensures { ids.new.items ≡ ids.old.items ++ id ∷ [] }
@@ -112,7 +112,7 @@ fn append_id(ids: &mut Vec<u64>, id: u64)
     }
 }
 
-// One more place, for which there is room.
+// Appends a span, for which there is room.
 fn append_span(spans: &mut Vec<Option<Span>>, span: Span)
     requires { vec_len spans.old < vec_capacity spans.old }
     ensures { spans.new.items ≡ spans.old.items ++ Some span ∷ [] }
@@ -124,7 +124,7 @@ fn append_span(spans: &mut Vec<Option<Span>>, span: Span)
 }
 
 impl Store {
-    // No clauses.
+    // Makes a store without clauses.
     pub(crate) fn new(alloc: Global) -> Store
         ensures { result ≡ record { last = 0; live = [] } }
     {
@@ -138,14 +138,14 @@ impl Store {
         }
     }
 
-    // The greatest id so far.
+    // Returns the greatest id so far, which no clause needs to have any more.
     pub(crate) fn last(&self) -> u64
         ensures { result ≡ self.now.last }
     {
         self.last
     }
 
-    // The clause of an id, if it is live.
+    // Returns the clause of an id, if it is live.
     pub(crate) fn get(&self, id: u64) -> Option<&[Lit]>
         ensures some { IfSome result (λ clause. clause_at self.now.live id ≡ Some clause.now) }
         ensures none { result ≡ None → clause_at self.now.live id ≡ None }
@@ -176,7 +176,7 @@ impl Store {
         Ok(())
     }
 
-    // Takes a greatest id that no clause has to have.
+    // Raises the greatest id so far to one that no clause has.
     fn raise(&mut self, last: u64)
         requires { self.old.last ≤ last }
         ensures { self.new ≡ record self.old { last = last } }
@@ -184,7 +184,7 @@ impl Store {
         self.last = last;
     }
 
-    // The same clauses, in lists without what was deleted.
+    // Copies the live clauses into lists without what was deleted.
     fn packed_copy(&self) -> Result<Store, NoMemory>
         ensures { IfOk result (λ store. store ≡ self.now) }
     {
@@ -198,7 +198,7 @@ impl Store {
         Ok(store)
     }
 
-    // Gives up the room of deleted clauses, once it is more than half, unless memory is wanting for that.
+    // Gives up the room of deleted clauses once it is more than half, unless memory runs out for that.
     fn pack(&mut self)
         ensures { self.new ≡ self.old }
     {
@@ -221,7 +221,7 @@ impl Store {
         }
     }
 
-    // The same of several ids.
+    // Deletes the clauses of several ids, each if it is live.
     fn remove_each(&mut self, ids: &[u64])
         ensures { self.new ≡ record { last = self.old.last; live = filter (λ k. not (list_any (λ id. k.id == id) ids.now)) self.old.live } }
     {
@@ -230,7 +230,7 @@ impl Store {
         }
     }
 
-    // Deletes the clauses of ids, where they are live.
+    // Deletes the clauses of several ids, each if it is live, and packs the lists if more than half of them is unused.
     pub(crate) fn remove_all(&mut self, ids: &[u64])
         ensures { self.new ≡ record { last = self.old.last; live = filter (λ k. not (list_any (λ id. k.id == id) ids.now)) self.old.live } }
     {

@@ -28,7 +28,7 @@ impl Model for Trail {
     ghost invariant = { λ t. IsTrail (value_at t.marks) (reverse t.order.items) };
 }
 
-// One more literal, for which there is room.
+// Appends a literal, for which there is room.
 fn append(order: &mut Vec<Lit>, lit: Lit)
     requires { vec_len order.old < vec_capacity order.old }
     ensures { order.new.items ≡ order.old.items ++ lit ∷ [] }
@@ -40,7 +40,7 @@ fn append(order: &mut Vec<Lit>, lit: Lit)
 }
 
 impl Trail {
-    // No literal is true.
+    // Starts without a true literal.
     pub(crate) fn new(alloc: Global) -> Trail
         ensures { result ≡ [] }
     {
@@ -50,7 +50,7 @@ impl Trail {
         }
     }
 
-    // Whether a literal is true.
+    // True if the literal is true.
     pub(crate) fn holds(&self, lit: &Lit) -> bool
         ensures { result ≡ is_among self.now lit.now }
     {
@@ -60,7 +60,7 @@ impl Trail {
         }
     }
 
-    // Has a literal be true.
+    // Makes a literal true that is not.
     fn push(&mut self, lit: &Lit) -> Result<(), NoMemory>
         requires absent { is_among self.old lit.now ≡ false }
         requires undecided { is_among self.old (negated lit.now) ≡ false }
@@ -72,7 +72,7 @@ impl Trail {
         Ok(())
     }
 
-    // Has a literal be true, if it is not.
+    // Makes a literal true, if it is not.
     pub(crate) fn add(&mut self, lit: &Lit) -> Result<(), NoMemory>
         requires undecided { is_among self.old (negated lit.now) ≡ false }
         ensures { OnOk result (self.new ≡ with_true lit.now self.old) }
@@ -83,7 +83,7 @@ impl Trail {
         self.push(lit)
     }
 
-    // Has a literal be false, unless it is true. Whether it is false then.
+    // Makes a literal false, unless it is true, and returns whether it is false then.
     pub(crate) fn deny(&mut self, lit: &Lit) -> Result<bool, NoMemory>
         ensures free { IfOk result (λ free. free ≡ not (is_among self.old lit.now)) }
         ensures denied { result ≡ Ok true → self.new ≡ with_true (negated lit.now) self.old }
@@ -97,7 +97,7 @@ impl Trail {
         }
     }
 
-    // Has no literal be true, in as many steps as there are true ones.
+    // Makes no literal true, in as many steps as there are true ones.
     pub(crate) fn clear(&mut self)
         ensures { self.new ≡ [] }
     {

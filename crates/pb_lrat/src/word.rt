@@ -7,7 +7,7 @@ use pb_base::{Expected, Lit, Word, read_digits, read_number};
 use pb_dimacs::{Meaning, meant};
 use pb_steps::{StepFault, number_between, token_fault};
 
-/// The id of a clause that a word is, or none where it is 0.
+/// Reads a word as the id of a clause; `None` if it is 0.
 pub(crate) fn hint_in(word: &Word<'_>) -> Result<Option<u64>, StepFault>
     ensures { result ≡ hint_in (chunk word.now) }
 {
@@ -19,7 +19,7 @@ pub(crate) fn hint_in(word: &Word<'_>) -> Result<Option<u64>, StepFault>
     Ok(Some(id as u64))
 }
 
-/// The literal of the first so many variables that a word is, or none where it is 0.
+/// Reads a word as a literal of the first `vars` variables; `None` if it is 0.
 pub(crate) fn literal_in(word: &Word<'_>, vars: u32) -> Result<Option<Lit>, StepFault>
     requires { vars < 2 ^ 31 }
     ensures { result ≡ literal_in vars (chunk word.now) }
