@@ -6,7 +6,7 @@ ghost use Rattle.pb_gen.specs.Drawn.{drawn_count, drawn_literal, drawn_right, dr
 use crate::draws::Draws;
 use pb_base::{Lit, Relation, Var};
 
-/// What a statement asks of its terms.
+/// The form of a generated statement: a relation, and how its right side is drawn.
 #[derive(Clone, Copy)]
 pub enum Kind {
     /// All literals but one.
@@ -19,6 +19,7 @@ pub enum Kind {
     AtMost,
 }
 
+// Returns the form of a statement for a draw, by its remainder modulo 4.
 fn kind_by(draw: u32) -> Kind
     ensures { result ≡ kind_by draw }
 {
@@ -31,7 +32,7 @@ fn kind_by(draw: u32) -> Kind
 }
 
 impl Kind {
-    /// Whether coefficients and the right side are drawn.
+    /// True if coefficients and the right side are drawn; else all coefficients are 1.
     pub fn is_weighted(self) -> bool
         ensures { result ≡ is_weighted self }
     {
@@ -41,7 +42,7 @@ impl Kind {
         }
     }
 
-    /// The relation of its statements.
+    /// Returns the relation of statements of this form.
     pub fn relation(self) -> Relation
         ensures { result ≡ relation_of self }
     {
@@ -52,7 +53,7 @@ impl Kind {
     }
 }
 
-/// How many terms a statement has.
+/// Draws the number of terms of a statement, from 2 to 11.
 pub fn draw_count(draws: &mut Draws) -> u32
     ensures count { result ≡ drawn_count draws.old.state }
     ensures least { 2 ≤ result }
@@ -62,7 +63,7 @@ pub fn draw_count(draws: &mut Draws) -> u32
     2 + draws.take() % 10
 }
 
-/// What a statement asks.
+/// Draws the form of a statement.
 pub fn draw_kind(draws: &mut Draws) -> Kind
     ensures kind { result ≡ kind_by (draw draws.old.state 0) }
     ensures state { draws.new.state ≡ state_after 1 draws.old.state }
@@ -70,7 +71,7 @@ pub fn draw_kind(draws: &mut Draws) -> Kind
     kind_by(draws.take())
 }
 
-/// A coefficient.
+/// Draws a coefficient from 1 to 20; without weights it is 1, and nothing is drawn.
 pub fn draw_weight(draws: &mut Draws, weighted: bool) -> u32
     ensures weight { result ≡ drawn_weight weighted draws.old.state }
     ensures least { 1 ≤ result }
@@ -80,7 +81,7 @@ pub fn draw_weight(draws: &mut Draws, weighted: bool) -> u32
     if weighted { 1 + draws.take() % 20 } else { 1 }
 }
 
-/// A literal over so many variables.
+/// Draws a literal over so many variables: first the variable, then the sign.
 pub fn draw_literal(draws: &mut Draws, vars: u64) -> Lit
     requires { 1 ≤ vars }
     ensures literal { result ≡ drawn_literal vars draws.old.state }
@@ -94,7 +95,7 @@ pub fn draw_literal(draws: &mut Draws, vars: u64) -> Lit
     }
 }
 
-/// The right side of a statement with so many terms, whose coefficients add up to this sum.
+/// Draws the right side of a statement with so many terms, whose coefficients add up to this sum.
 pub fn draw_right(draws: &mut Draws, kind: Kind, count: u32, sum: u32) -> u32
     requires least { 1 ≤ count }
     requires most { count < 2 ^ 16 }

@@ -2,21 +2,21 @@
 ghost use Rattle.std.specs.Prelude.{◌≡◌, ◌<◌, ◌^◌};
 ghost use Rattle.pb_gen.specs.Draws.{draw, state_after};
 
-/// Draws, by the state behind the last one.
+/// A linear congruential generator, with the state after the last draw.
 #[derive(Drop)]
 pub struct Draws {
     state: u32,
 }
 
 impl Draws {
-    /// The draws of a seed.
+    /// Starts the draws of a seed.
     pub fn new(seed: u32) -> Self
         ensures { result.state ≡ seed }
     {
         Draws { state: seed }
     }
 
-    /// The next draw.
+    /// Returns the next draw, from 0 to 65,535.
     pub fn take(&mut self) -> u32
         ensures drawn { result ≡ draw self.old.state 0 }
         ensures small { result < 2 ^ 16 }

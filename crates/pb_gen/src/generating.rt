@@ -51,9 +51,9 @@ fn push_statement(out: &mut Vec<u8>, draws: &mut Draws, vars: u64) -> Result<(),
     Ok(())
 }
 
-/// The text of the problem that is generated with a seed: so many statements, over ten variables more.
+/// Returns the text of the problem that is generated with a seed: `n` statements, over `n + 10` variables.
 ///
-/// The text is in the format that `pb_opb` reads. Its first line tells both numbers.
+/// The text is in the format that `pb_opb` reads. Its first line declares both numbers.
 pub fn generate(alloc: Global, n: u32, seed: u32) -> Result<Bytes, NoMemory>
     // The text is exactly the one that the number of statements and the seed define.
     ensures { IfOk result (λ text. text ≡ generated n seed) }

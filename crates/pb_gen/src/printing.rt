@@ -7,7 +7,7 @@ use itoa::Buffer;
 use pb_base::{Lit, Relation};
 use std::alloc::AllocError;
 
-// Appends certain bytes, and a number behind them.
+// Appends certain bytes, and a number after them.
 fn push_number(out: &mut Vec<u8>, before: &[u8], n: u64) -> Result<(), AllocError>
     ensures { OnOk result (out.new.items ≡ out.old.items ++ before.now ++ decimal n) }
 {
@@ -38,7 +38,7 @@ pub fn push_term(out: &mut Vec<u8>, weight: u32, lit: Lit) -> Result<(), AllocEr
     Ok(())
 }
 
-/// Appends what stands behind the terms of a statement.
+/// Appends the relation, the right side and the end of a statement.
 pub fn push_end(out: &mut Vec<u8>, relation: Relation, right: u32) -> Result<(), AllocError>
     ensures { OnOk result (out.new.items ≡ out.old.items ++ relation_text relation ++ signed_decimal (pos right) ++ codes " ;\n") }
 {
