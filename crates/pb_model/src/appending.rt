@@ -5,7 +5,7 @@ ghost use Rattle.std.specs.Result.{IsOk};
 use pb_base::NoMemory;
 use std::alloc::AllocError;
 
-/// Takes back what stands behind so many bytes, unless all was appended.
+/// Cuts the bytes back to so many, unless all was appended.
 pub(crate) fn whole_or_none(
     out: &mut Vec<u8>,
     before: usize,

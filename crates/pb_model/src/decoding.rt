@@ -9,7 +9,7 @@ use crate::model::{Model, Says};
 use crate::widened::Widened;
 use pb_base::{Problem, Relation, Statement, Statements, Term, TermsLeft};
 
-/// What a model comes to beside a problem.
+/// The result of testing a model against a problem.
 #[derive(Clone, Copy)]
 pub enum Decoded {
     /// The solver does not say that there is a model.
@@ -20,7 +20,7 @@ pub enum Decoded {
     Solution,
 }
 
-// What a term adds.
+// Returns the coefficient of a term if its literal is true, and else 0.
 fn term_value(values: &Widened, term: &Term) -> i128
     requires { term.now.lit.var ≤ length values.now }
     ensures { result ≡ written_value (assigned_by values.now) term.now }
@@ -32,7 +32,7 @@ fn term_value(values: &Widened, term: &Term) -> i128
     }
 }
 
-/// The sum of the coefficients of the true terms.
+/// Returns the sum of the coefficients of the true terms.
 pub(crate) fn sum_of(values: &Widened, terms: &[Term]) -> i128
     requires vars { AreVarsWithin (length values.now) terms.now }
     requires numbers { magnitude terms.now < 2 ^ 100 }
@@ -45,7 +45,7 @@ pub(crate) fn sum_of(values: &Widened, terms: &[Term]) -> i128
     sum
 }
 
-// The same of the terms of a statement where it is kept.
+// Returns the sum of the coefficients of the true terms of a statement that is read from its stored form.
 fn sum_left(values: &Widened, terms: TermsLeft<'_>) -> i128
     requires vars { AreVarsWithin (length values.now) terms }
     requires numbers { magnitude terms < 2 ^ 100 }
@@ -58,7 +58,7 @@ fn sum_left(values: &Widened, terms: TermsLeft<'_>) -> i128
     sum
 }
 
-// Whether a statement holds under the values.
+// True if the statement holds under the values.
 fn satisfies(values: &Widened, statement: Statement<'_>) -> bool
     requires vars { AreVarsWithin (length values.now) statement.terms }
     requires numbers { magnitude statement.terms < 2 ^ 100 }
@@ -72,7 +72,7 @@ fn satisfies(values: &Widened, statement: Statement<'_>) -> bool
     }
 }
 
-// The place of the first statement that does not hold, counted from 0.
+// Returns the position, from 0, of the first statement that does not hold.
 fn first_violated(values: &Widened, statements: &Statements) -> Option<u64>
     requires few { length statements.now ≤ 2 ^ 24 + 1 }
     requires vars { All (λ s. AreVarsWithin (length values.now) s.terms) statements.now }
@@ -89,8 +89,8 @@ fn first_violated(values: &Widened, statements: &Statements) -> Option<u64>
     None
 }
 
-/// Whether the values of a model, one for each variable of the problem, are a solution of it, where its products have the values that
-/// follow; else the first statement that they violate. A model that says nothing of that kind is none.
+/// Tests the values of a model, one for each variable of the problem, against each statement. Products have the values that follow. A
+/// model text that does not say `SATISFIABLE` gives `NoModel`.
 pub fn decode(problem: &Problem, model: &Model) -> Decoded
     requires within { IsWithinLimits problem.now }
     requires covers { length model.now.values ≡ problem.now.vars }

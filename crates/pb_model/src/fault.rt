@@ -30,6 +30,7 @@ impl From<AllocError> for ModelFault {
 
     ghost from_gives = { λ _ e. e ≡ fault.NoMemory };
 
+    // Lets `?` report a refused allocation as want of memory.
     fn from(_: AllocError) -> Self {
         ModelFault::NoMemory
     }

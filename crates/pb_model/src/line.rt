@@ -13,14 +13,14 @@ use crate::reader::Reader;
 use memchr::memchr;
 use pb_base::{Expected, Place, Word, Words, read_number, words};
 
-/// The first line of a text, and what stands behind it.
+/// The first line of a text, and the text after it.
 #[derive(Clone, Copy)]
 pub struct Cut<'a> {
     pub line: &'a [u8],
     pub behind: &'a [u8],
 }
 
-/// Cuts the first line from a text.
+/// Splits the first line off a text, without its LF.
 pub fn cut_line(text: &[u8]) -> Cut<'_>
     requires { 0 < length text.now }
     ensures cut { BeginsWith result.line.now text.now result.behind.now }
@@ -38,7 +38,7 @@ pub fn cut_line(text: &[u8]) -> Cut<'_>
     }
 }
 
-// What a status line says behind its first word.
+// Returns what a status line says after its first word.
 fn said_by(words: Words<'_>) -> Says
     ensures { result ≡ said_by words.entry }
 {
@@ -56,13 +56,14 @@ fn said_by(words: Words<'_>) -> Says
     }
 }
 
+// True if the line begins with `c`.
 fn opens_comment(text: &[u8]) -> bool
     ensures { result ≡ opens_comment text.now }
 {
     text.starts_with(b"c")
 }
 
-// The place of a word of the line of a number.
+// Returns the place of a word in the line of this number, from 1.
 fn place_in(number: u64, word: &Word<'_>) -> Place
     ensures { result ≡ place_in number (chunk word.now) }
 {
@@ -72,7 +73,7 @@ fn place_in(number: u64, word: &Word<'_>) -> Place
     }
 }
 
-// Takes the words behind the first of a line of values.
+// Reads the words after the first of a line of values.
 fn take_values(reader: &mut Reader, number: u64, words: Words<'_>) -> Result<(), ModelFault>
     ensures { Takes (λ vars. map (word_symbol vars number) words.entry) reader.old reader.new result }
 {
@@ -85,7 +86,7 @@ fn take_values(reader: &mut Reader, number: u64, words: Words<'_>) -> Result<(),
     Ok(())
 }
 
-// Takes a line of values.
+// Reads a line of values.
 fn take_value_line(
     reader: &mut Reader,
     place: Place,
@@ -100,7 +101,7 @@ fn take_value_line(
     }
 }
 
-/// Takes the line of a number.
+/// Reads the line of this number, from 1.
 pub fn take_line(reader: &mut Reader, number: u64, line: &[u8]) -> Result<(), ModelFault>
     ensures { Takes (λ vars. line_symbols vars number (words_of line.now)) reader.old reader.new result }
 {

@@ -4,7 +4,7 @@ ghost use Rattle.std.specs.Prelude.{◌≡◌, ◌<◌, ◌^◌, length};
 use pb_base::{Bits, Lit, NoMemory};
 use std::alloc::Global;
 
-/// For each of so many variables, whether it is listed, and whether its negation is.
+/// The literals that are listed so far: for each variable one truth value for it, and one for its negation.
 #[derive(Drop)]
 pub struct Listing {
     pub vars: u32,
@@ -25,7 +25,7 @@ impl Listing {
     ghost use Rattle.pb_model.specs.ModelReading.{is_listed};
     ghost use Rattle.pb_model.specs.inner.Reading.{Lists};
 
-    /// Nothing is listed.
+    /// Makes a list over so many variables, without a literal.
     pub fn new(alloc: Global, vars: u32) -> Result<Listing, NoMemory>
         requires { vars < 2 ^ 31 }
         ensures vars { IfOk result (λ l. l.vars ≡ vars) }
@@ -38,7 +38,7 @@ impl Listing {
         })
     }
 
-    // Whether a literal is listed.
+    // True if the literal is listed.
     fn has(&self, lit: Lit) -> bool
         requires { lit.var ≤ self.now.vars }
         ensures { (ss : List Symbol) → Lists ss self.now → result ≡ is_listed ss lit }
@@ -65,7 +65,7 @@ impl Listing {
         }
     }
 
-    /// Lists a literal, unless its negation is.
+    /// Lists a literal unless its negation is listed, and returns whether it did.
     pub fn take(&mut self, lit: Lit) -> bool
         requires { lit.var ≤ self.old.vars }
         ensures vars { self.new.vars ≡ self.old.vars }
@@ -79,7 +79,7 @@ impl Listing {
         true
     }
 
-    /// The values of the variables: those that are listed are true.
+    /// Returns the values of the variables: those that are listed are true.
     pub fn values(self) -> Bits
         ensures { result ≡ self.listed.items }
     {

@@ -4,7 +4,7 @@ ghost use Rattle.pb_model.specs.ModelLines.{meaning_of, meant, IsWithin};
 
 use pb_base::{Lit, MAX_VARIABLES, Number, Var};
 
-/// What a word means among the values.
+/// The meaning of a word in a line of values.
 #[derive(Clone, Copy)]
 pub enum Meaning {
     /// The end of the values.
@@ -19,7 +19,7 @@ pub enum Meaning {
     Nothing,
 }
 
-// The same of an integer of this size.
+// Returns the meaning of an integer of this sign and size: 0 ends the values.
 fn literal_of_size(positive: bool, size: u128, vars: u32) -> Meaning
     requires { vars < 2 ^ 31 }
     ensures value { result ≡ meaning_of vars positive size }
@@ -40,7 +40,7 @@ fn literal_of_size(positive: bool, size: u128, vars: u32) -> Meaning
     Meaning::TooGreat
 }
 
-/// What a number means among the values of so many variables.
+/// Returns the meaning of a number in a line of values, for a problem of so many variables.
 pub fn meant(number: Number, vars: u32) -> Meaning
     requires { vars < 2 ^ 31 }
     ensures value { result ≡ meant vars number }

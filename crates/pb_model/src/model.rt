@@ -1,7 +1,7 @@
 //! What a model text says.
 use pb_base::Bits;
 
-/// What a solver says of the clauses.
+/// The status that a solver reports of the clauses.
 #[derive(Clone, Copy)]
 pub enum Says {
     /// That they have a model.
@@ -12,7 +12,7 @@ pub enum Says {
     Missing,
 }
 
-/// What a solver says, and a value for each variable, the first one for variable 1.
+/// The status that a solver reports, and a value for each variable, the first one for variable 1.
 pub struct Model {
     pub says: Says,
     pub values: Bits,

@@ -54,8 +54,7 @@ fn push_lines(out: &mut Vec<u8>, problem: &Problem) -> Result<(), AllocError>
     Ok(())
 }
 
-/// Appends a line for each free name: the number of its variable, and the name. Where memory is wanting, the bytes stay as they
-/// were.
+/// Appends a line for each free name: the number of its variable, and the name. If memory runs out, the bytes are as they were.
 pub fn write_map(_alloc: Global, problem: &Problem, out: &mut Vec<u8>) -> Result<(), NoMemory>
     requires within { IsWithinLimits problem.now }
     // On success a line for each free name was appended, of its number and the name, in the order of the numbers.

@@ -37,7 +37,7 @@ fn read_lines(reader: Reader, text: &[u8]) -> Result<Model, ModelFault>
     })
 }
 
-/// Reads what a solver printed, as it says of so many variables, or tells the text's first fault.
+/// Reads what a solver printed, as it says of so many variables, or answers the text's first fault.
 ///
 /// Variables that are not listed are false; those past the given ones are read and passed over.
 /// The text has at most 2^32 bytes, and variables are at most 2^31 - 1.

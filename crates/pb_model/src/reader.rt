@@ -14,7 +14,7 @@ use crate::model::{Model, Says};
 use pb_base::{Expected, LimitKind, NoMemory, Number, Place};
 use std::alloc::Global;
 
-// Whether a status line said something.
+// True if there was a status line.
 fn is_said(says: Says) -> bool
     ensures { result ≡ is_said says }
 {
@@ -24,14 +24,14 @@ fn is_said(says: Says) -> bool
     }
 }
 
-// Another word could not stand there.
+// Returns the fault that another word was expected at a place.
 fn refusal_at(place: Place, expected: Expected) -> ModelFault
     ensures { result ≡ Token place expected }
 {
     ModelFault::Token { place, expected }
 }
 
-// A variable past the limit stands there.
+// Returns the fault that a variable past the limit is at a place.
 fn too_great(place: Place) -> ModelFault
     ensures { result ≡ Limit (Some place) Variables }
 {
@@ -41,7 +41,7 @@ fn too_great(place: Place) -> ModelFault
     }
 }
 
-/// What was said so far.
+/// The state of reading a model text: the literals, the status, and if the values began and ended.
 #[derive(Drop)]
 pub struct Reader {
     pub listing: Listing,
@@ -51,7 +51,7 @@ pub struct Reader {
 }
 
 impl Reader {
-    /// Nothing was said.
+    /// Starts before the first line.
     pub fn new(alloc: Global, vars: u32) -> Result<Reader, NoMemory>
         requires { vars < 2 ^ 31 }
         ensures { IfOk result (Knows vars []) }
@@ -64,7 +64,7 @@ impl Reader {
         })
     }
 
-    /// Takes a status line.
+    /// Reads a status line; a second one is refused.
     pub fn take_status(&mut self, place: Place, says: Says) -> Result<(), ModelFault>
         ensures { Takes (λ _. status place says ∷ []) self.old self.new result }
     {
@@ -75,7 +75,7 @@ impl Reader {
         Ok(())
     }
 
-    /// Takes the first word of a line of values.
+    /// Reads the first word of a line of values, which is refused after their end.
     pub fn open_values(&mut self, place: Place) -> Result<(), ModelFault>
         ensures { Takes (λ _. values place ∷ []) self.old self.new result }
     {
@@ -86,7 +86,7 @@ impl Reader {
         Ok(())
     }
 
-    // Takes what a word means, before the end of the values.
+    // Adds the meaning of a word, before the end of the values.
     fn note_meaning(&mut self, place: Place, meaning: Meaning) -> Result<(), ModelFault>
         requires going { self.old.ended ≡ false }
         requires within { IsWithin self.old.listing.vars meaning }
@@ -106,7 +106,7 @@ impl Reader {
         Ok(())
     }
 
-    /// Takes a word behind the first of a line of values.
+    /// Reads a word after the first of a line of values.
     pub fn take_word(&mut self, place: Place, number: Number) -> Result<(), ModelFault>
         ensures { Takes (λ vars. word place (meant vars number) ∷ []) self.old self.new result }
     {
@@ -117,7 +117,7 @@ impl Reader {
         self.note_meaning(place, meaning)
     }
 
-    /// What was said, at the end of the text.
+    /// Ends the text, and returns the model; values that began have to be ended by a 0.
     pub fn finish(self, place: Place) -> Result<Model, ModelFault>
         ensures { (vars : ℕ) (ss : List Symbol) → Knows vars ss self → ConcludesBy vars ss place result }
     {

@@ -40,7 +40,7 @@ fn push_value(
     push_name(out, problem, variable)
 }
 
-/// The value of the objective, which has the empty sum if there is none.
+/// Returns the value of the objective; 0 if there is none.
 pub fn objective_of(problem: &Problem, values: &Bits) -> i128
     requires within { IsWithinLimits problem.now }
     requires covers { length values.now ≡ problem.now.vars }
@@ -110,7 +110,7 @@ fn push_text(
     push_values_line(out, problem, values)
 }
 
-// The same, or nothing where memory is wanting.
+// Appends the value of the objective, a status and the values. If memory runs out, the bytes are as they were.
 fn write_text(
     out: &mut Vec<u8>,
     status: &[u8],
@@ -128,7 +128,7 @@ fn write_text(
 }
 
 /// Appends the text of a solution: the value of the objective, if there is one, that there is a solution, and the value of each
-/// variable, by its name. Where memory is wanting, the bytes stay as they were.
+/// variable, by its name. If memory runs out, the bytes are as they were.
 pub fn write_solution(
     _alloc: Global,
     problem: &Problem,
@@ -145,7 +145,8 @@ pub fn write_solution(
     write_text(out, b"s SATISFIABLE\n", problem, values)
 }
 
-/// The same of a solution below whose value there is none.
+/// Appends the text of a solution as an optimum: with the status that no solution has a smaller value. If memory runs out, the bytes are
+/// as they were.
 pub fn write_optimum(
     _alloc: Global,
     problem: &Problem,

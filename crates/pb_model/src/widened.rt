@@ -7,7 +7,7 @@ ghost use Rattle.pb_model.specs.inner.Widened.{AreOver};
 use pb_base::{Lit, Lits, Problem};
 use std::marker::Model;
 
-/// The values of a problem's variables, and behind them those of its products, which are not kept: each is true where its literals are.
+/// The values of a problem's variables, and after them those of its products, which are not stored: each is true iff its literals are.
 #[derive(Drop)]
 pub struct Widened<'a> {
     values: &'a [bool],
@@ -27,7 +27,7 @@ impl<'a> Model for Widened<'a> {
     ghost invariant = { λ w. AreOver (length w.values.now) w.products.now };
 }
 
-// Whether a literal of the first variables is true.
+// True if a literal of the problem's own variables is true.
 fn is_true(values: &[bool], lit: &Lit) -> bool
     requires { lit.now.var ≤ length values.now }
     ensures { result ≡ lit_value (assigned_by values.now) lit.now }
@@ -36,7 +36,7 @@ fn is_true(values: &[bool], lit: &Lit) -> bool
     if lit.positive { value } else { !value }
 }
 
-// Whether all literals of a product are true.
+// True if all literals of a product are true.
 fn is_product_true(values: &[bool], literals: &[Lit]) -> bool
     requires { All (λ l. l.var ≤ length values.now) literals.now }
     ensures { result ≡ product_value (assigned_by values.now) literals.now }
@@ -45,7 +45,7 @@ fn is_product_true(values: &[bool], literals: &[Lit]) -> bool
 }
 
 impl<'a> Widened<'a> {
-    /// The values of a problem's variables widened to its products.
+    /// Widens the values of a problem's variables to its products.
     pub fn new(problem: &'a Problem, values: &'a [bool]) -> Self
         requires within { IsWithinLimits problem.now }
         requires covers { length values.now ≡ problem.now.vars }
@@ -57,7 +57,7 @@ impl<'a> Widened<'a> {
         }
     }
 
-    // The value of a variable, by its place.
+    // Returns the value of the variable at a position, from 0; after the problem's variables come its products.
     fn value_at(&self, place: usize) -> bool
         requires { place < length self.now }
         ensures { result ≡ slice_index_or self.now place false }
@@ -71,7 +71,7 @@ impl<'a> Widened<'a> {
         }
     }
 
-    /// Whether a literal is true.
+    /// True if a literal is true, of a variable or of a product.
     pub fn is_true(&self, lit: Lit) -> bool
         requires { lit.var ≤ length self.now }
         ensures { result ≡ lit_value (assigned_by self.now) lit }
