@@ -2,7 +2,7 @@
 
 use pb_base::LimitKind;
 
-/// Why columns give no statements.
+/// The reason why columns give no statements.
 #[derive(Clone, Copy)]
 pub enum ColumnFault {
     NoMemory,

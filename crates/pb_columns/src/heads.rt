@@ -1,4 +1,4 @@
-//! What stands beside the terms of sums.
+//! The heads of sums: the number of terms, the relation and the right side.
 ghost use Rattle.std.specs.Prelude.{◌≡◌, ◌≤◌, ◌∷◌, ◌++◌, [], ◌^◌, All, IfErr, IfOk, OnOk, Some, map};
 ghost use Rattle.pb_columns.specs.Columns.{head_of, head_with, HasMoreHead, IsShort, StopsHeads, StopsSum};
 
@@ -8,7 +8,7 @@ use crate::sum::{PbcnfSum, most_terms, relation_of};
 use pb_base::{Head, Heads, LimitKind, NoMemory, Relation};
 use std::alloc::Global;
 
-// What the statement of a sum has beside its terms.
+// Returns the head of a sum's statement: the number of terms, the relation and the right side.
 fn head_with(sum: &PbcnfSum, relation: Relation) -> Head
     requires { sum.now.terms ≤ 2 ^ 20 }
     ensures { result ≡ head_with sum.now relation }
@@ -20,7 +20,7 @@ fn head_with(sum: &PbcnfSum, relation: Relation) -> Head
     }
 }
 
-// Adds the head of a sum that stands at this place, from 1.
+// Adds the head of the sum at this position, from 1, or blames the sum.
 fn push_head(heads: &mut Heads, sum: &PbcnfSum, at: u64) -> Result<(), ColumnFault>
     ensures ok { OnOk result (HasMoreHead sum.now heads.old heads.new) }
     ensures stopped { IfErr result (StopsSum sum.now at) }
@@ -40,7 +40,7 @@ fn push_head(heads: &mut Heads, sum: &PbcnfSum, at: u64) -> Result<(), ColumnFau
     }
 }
 
-/// The heads of sums.
+/// Returns the heads of sums, or the fault of the first that has none.
 pub(crate) fn heads_of(alloc: Global, sums: &[PbcnfSum]) -> Result<Heads, ColumnFault>
     ensures heads { IfOk result (λ heads. map Some heads ≡ map head_of sums.now) }
     ensures short { IfOk result (λ heads. All IsShort sums.now) }

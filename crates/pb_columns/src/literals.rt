@@ -6,7 +6,7 @@ ghost use Rattle.pb_columns.specs.Columns.{IsBelow};
 
 use pb_base::{Lit, Var};
 
-/// Whether a number is that of a literal of a variable below the first fresh one.
+/// True if the number is that of a literal whose variable is below the first fresh one.
 pub(crate) fn is_below(number: i32, first: u32) -> bool
     ensures { IsTrue result ↔ IsBelow first number }
 {
@@ -14,7 +14,7 @@ pub(crate) fn is_below(number: i32, first: u32) -> bool
     1 <= var && var < first
 }
 
-/// The literal of a number.
+/// Returns the literal of a number: negated if the number is negative.
 pub(crate) fn literal_of(number: i32) -> Lit
     requires low { 1 ≤ unsigned_abs number }
     requires high { unsigned_abs number < 2 ^ 31 }

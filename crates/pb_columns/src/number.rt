@@ -8,7 +8,7 @@ const WORD: u128 = 1 << 64;
 // The word of a sign alone.
 const SIGN: u64 = 1 << 63;
 
-/// The number of one word.
+/// Returns the number that one word means in two's complement.
 pub(crate) fn signed(word: u64) -> i128
     ensures { result ≡ signed word }
 {
@@ -20,7 +20,7 @@ pub(crate) fn signed(word: u64) -> i128
     }
 }
 
-/// The number of two words, the low one first.
+/// Returns the number that two words mean in two's complement, the low one first.
 pub fn wide(low: u64, high: u64) -> i128
     // The number is the one of the two words, of which the high one has the sign.
     ensures { result ≡ wide low high }
@@ -28,7 +28,7 @@ pub fn wide(low: u64, high: u64) -> i128
     signed(high) * 0x1_0000_0000_0000_0000 + low as i128
 }
 
-/// The two words of a number, the low one first.
+/// Returns the two words of a number in two's complement, the low one first.
 pub fn halves(number: i128) -> (u64, u64)
     // The two words are those of the number.
     ensures { wide result.0 result.1 ≡ number }

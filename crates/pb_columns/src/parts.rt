@@ -5,20 +5,21 @@ ghost use Rattle.pb_columns.specs.Conditions.{greatest, least, negative_part, po
 
 use pb_base::{Raw, Term};
 
-// What is negative of a number.
+// Returns the number if it is negative, and else 0.
 fn negative_part(number: i128) -> i128
     ensures { result ≡ negative_part number }
 {
     if number < 0 { number } else { 0 }
 }
 
+// Returns the number if it is positive, and else 0.
 fn positive_part(number: i128) -> i128
     ensures { result ≡ positive_part number }
 {
     if number < 0 { 0 } else { number }
 }
 
-// No value of the sum is below it.
+// Returns a lower bound of the sum: its negative coefficients, added up.
 fn least(terms: &[Term]) -> i128
     requires { magnitude terms.now < 2 ^ 100 }
     ensures { result ≡ least terms.now }
@@ -30,7 +31,7 @@ fn least(terms: &[Term]) -> i128
     sum
 }
 
-// No value of the sum is above it.
+// Returns an upper bound of the sum: its positive coefficients, added up.
 fn greatest(terms: &[Term]) -> i128
     requires { magnitude terms.now < 2 ^ 100 }
     ensures { result ≡ greatest terms.now }
@@ -42,7 +43,7 @@ fn greatest(terms: &[Term]) -> i128
     sum
 }
 
-/// How far the right side is above every value of the sum, at most.
+/// Returns how far the right side is above the least value of the sum, or 0: the coefficient of the negated condition in the lower half.
 pub(crate) fn shift_up(statement: &Raw) -> i128
     requires { StaysBelow (2 ^ 100) statement.now }
     ensures { result ≡ shift_up statement.now.terms statement.now.right }
@@ -50,7 +51,8 @@ pub(crate) fn shift_up(statement: &Raw) -> i128
     positive_part(statement.right - least(statement.terms.as_slice()))
 }
 
-/// How far it is below, as a number that is not positive.
+/// Returns how far the right side is below the greatest value of the sum, as a number that is not positive, or 0: the coefficient of the
+/// negated condition in the upper half.
 pub(crate) fn shift_down(statement: &Raw) -> i128
     requires { StaysBelow (2 ^ 100) statement.now }
     ensures { result ≡ shift_down statement.now.terms statement.now.right }

@@ -5,7 +5,7 @@ ghost use Rattle.pb_columns.specs.Columns.{terms_asked, FindsOutside, IsPlaceOf}
 use crate::literals::is_below;
 use crate::sum::PbcnfSum;
 
-/// How many terms the sums have.
+/// Returns the number of terms of all sums together.
 pub(crate) fn terms_asked(sums: &[PbcnfSum]) -> u128
     ensures { result ≡ terms_asked sums.now }
 {
@@ -16,7 +16,7 @@ pub(crate) fn terms_asked(sums: &[PbcnfSum]) -> u128
     count
 }
 
-/// The place of a literal, from 0, that is of no variable below the first fresh one.
+/// Returns the position, from 0, of the first literal whose variable is not below the first fresh one.
 pub(crate) fn first_outside(numbers: &[i32], first: u32) -> Option<usize>
     ensures { FindsOutside first numbers.now result }
 {
@@ -28,7 +28,7 @@ pub(crate) fn first_outside(numbers: &[i32], first: u32) -> Option<usize>
     None
 }
 
-/// The sum, from 1, that has the term at this place, from 0.
+/// Returns the number, from 1, of the sum that has the term at this position, from 0.
 pub(crate) fn sum_at(sums: &[PbcnfSum], place: usize) -> u64
     requires { place < terms_asked sums.now }
     ensures { IsPlaceOf sums.now place result }

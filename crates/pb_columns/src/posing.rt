@@ -12,14 +12,14 @@ use crate::sum::PbcnfSum;
 use pb_base::{Lit, NoMemory, Raw, Relation, Statements, StatementsLeft, Term};
 use std::alloc::Global;
 
-// Whether a number is 0, or that of a literal of a variable below the first fresh one.
+// True if the number is 0, which is no condition, or that of a literal whose variable is below the first fresh one.
 fn is_condition(number: i32, first: u32) -> bool
     ensures { IsTrue result ↔ IsCondition first number }
 {
     number == 0 || is_below(number, first)
 }
 
-/// The sum, from 1, whose condition is no literal of a variable below the first fresh one.
+/// Returns the number, from 1, of the first sum whose condition is no literal of a variable below the first fresh one.
 pub(crate) fn first_stray(sums: &[PbcnfSum], first: u32) -> Option<u64>
     ensures { FindsStray first sums.now result }
 {
@@ -31,7 +31,7 @@ pub(crate) fn first_stray(sums: &[PbcnfSum], first: u32) -> Option<u64>
     None
 }
 
-// A term of the opposite literal.
+// Returns a term of the opposite literal.
 fn term_against(coef: i128, lit: &Lit) -> Term
     ensures { result ≡ record { coef = coef; lit = negated lit.now } }
 {
@@ -71,7 +71,7 @@ fn push_least(
     push_half(posed, room, statement, Relation::AtLeast, more)
 }
 
-// And the upper half.
+// Adds the upper half under a condition.
 fn push_most(
     posed: &mut Statements,
     room: &mut Vec<Term>,
@@ -85,7 +85,7 @@ fn push_most(
     push_half(posed, room, statement, Relation::AtMost, more)
 }
 
-// Adds a statement under the condition of a number, where that is not 0.
+// Adds a statement, under the condition of a number unless that is 0.
 fn pose_one(
     posed: &mut Statements,
     room: &mut Vec<Term>,
@@ -134,7 +134,7 @@ fn pose_next(
     }
 }
 
-// The statements under the conditions of their sums.
+// Returns the statements under the conditions of their sums.
 fn pose_all(
     alloc: Global,
     sums: &[PbcnfSum],
@@ -161,7 +161,7 @@ fn pose_all(
     Ok(posed)
 }
 
-// Whether no sum has a condition.
+// True only if no sum has a condition.
 fn are_plain(sums: &[PbcnfSum]) -> bool
     ensures { IsTrue result → All (λ m. m.condition ≡ pos 0) sums.now }
 {
@@ -173,7 +173,7 @@ fn are_plain(sums: &[PbcnfSum]) -> bool
     true
 }
 
-/// The statements of sums, each under its condition.
+/// Returns the statements of sums, each under its condition.
 pub(crate) fn posed(
     alloc: Global,
     sums: &[PbcnfSum],

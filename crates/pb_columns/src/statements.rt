@@ -14,7 +14,7 @@ use crate::weights::first_heavy;
 use pb_base::{LimitKind, MAX_STATEMENTS, Names, NoMemory, Problem, Products, Statements};
 use std::alloc::Global;
 
-/// Sums in columns: the terms of each behind those of the one before.
+/// Sums in columns: the terms of each after those of the one before.
 #[derive(Drop)]
 pub struct Columns<'a> {
     /// One word for each literal, or two, the low one first.
@@ -25,7 +25,7 @@ pub struct Columns<'a> {
     pub first: u32,
 }
 
-// Whether the first fresh variable and the lengths of the columns are in their ranges.
+// True if the first fresh variable and the lengths of the columns are in their ranges.
 fn is_fit(columns: &Columns<'_>) -> bool
     ensures { IsTrue result ↔ AreFit (columns_at columns.now.words.now columns.now.literals.now columns.now.sums.now columns.now.first) }
 {
@@ -35,7 +35,7 @@ fn is_fit(columns: &Columns<'_>) -> bool
         && terms_asked(columns.sums) == columns.literals.len() as u128
 }
 
-// The statements of columns that fit, as long as their numbers are not too great.
+// Returns the statements of columns that fit, if none has numbers that are too great.
 fn joined(alloc: Global, columns: &Columns<'_>) -> Result<Statements, ColumnFault>
     requires { AreFit (columns_at columns.now.words.now columns.now.literals.now columns.now.sums.now columns.now.first) }
     ensures given { IfOk result (AreStatementsOf (columns_at columns.now.words.now columns.now.literals.now columns.now.sums.now columns.now.first)) }
@@ -59,7 +59,7 @@ fn joined(alloc: Global, columns: &Columns<'_>) -> Result<Statements, ColumnFaul
     }
 }
 
-// The statements under their conditions, if there are not too many.
+// Returns the statements under their conditions, if there are not too many.
 fn encoded(
     alloc: Global,
     columns: &Columns<'_>,
@@ -86,13 +86,13 @@ fn encoded(
     Ok(posed)
 }
 
-/// The statements that are encoded of columns.
+/// Returns the statements of columns, each under its condition, or the first fault.
 pub fn statements_of(alloc: Global, columns: &Columns<'_>) -> Result<Statements, ColumnFault>
     // The statements are those of the sums, each with its terms, its relation and its right side, under its condition.
     ensures given { IfOk result (ArePosedOf (columns_at columns.now.words.now columns.now.literals.now columns.now.sums.now columns.now.first)) }
     // Their problem is within the limits of problems.
     ensures within { IfOk result (λ ss. IsWithinLimits (problem_of columns.now.first ss)) }
-    // Else there is the cause that is told, of the sum that is told.
+    // Else the cause that is reported is there, in the sum that is reported.
     ensures stopped { IfErr result (StopsColumns (columns_at columns.now.words.now columns.now.literals.now columns.now.sums.now columns.now.first)) }
 {
     if !is_fit(columns) {
@@ -114,7 +114,7 @@ pub fn statements_of(alloc: Global, columns: &Columns<'_>) -> Result<Statements,
     }
 }
 
-/// The problem of statements, over the variables below the first fresh one.
+/// Returns the problem of statements, over the variables below the first fresh one.
 pub fn problem_of(alloc: Global, first: u32, statements: Statements) -> Problem
     requires { 1 ≤ first }
     // The problem has these statements, and all variables below the first fresh one.

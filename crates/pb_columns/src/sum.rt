@@ -1,11 +1,11 @@
-//! What stands beside the terms of a sum.
+//! A sum but for its terms.
 ghost use Rattle.std.specs.Prelude.{◌≡◌, ◌≤◌, ◌^◌};
 ghost use Rattle.pb_columns.specs.Columns.{relation_of};
 ghost use Rattle.pb_columns.specs.Conditions.{most_terms, weight_limit};
 
 use pb_base::Relation;
 
-/// A sum in a column: what stands beside its terms, which are the next ones.
+/// A sum but for its terms, which are the next ones in the column of terms.
 #[repr(C)]
 #[derive(Clone, Copy)]
 pub struct PbcnfSum {
@@ -20,7 +20,7 @@ pub struct PbcnfSum {
     pub right_high: u64,
 }
 
-/// The relation of a number, if it has one.
+/// Returns the relation of a number: 0 at least, 1 at most, 2 equal; `None` above.
 pub(crate) fn relation_of(word: u32) -> Option<Relation>
     ensures { result ≡ relation_of word }
 {
@@ -32,7 +32,7 @@ pub(crate) fn relation_of(word: u32) -> Option<Relation>
     }
 }
 
-/// The most terms of a sum under the condition of this number.
+/// Returns the greatest number of terms of a sum: 2^20, and one less under a condition, which takes a term. 0 is no condition.
 pub(crate) fn most_terms(condition: i32) -> u64
     ensures value { result ≡ most_terms condition }
     ensures few { result ≤ 2 ^ 20 }
@@ -40,7 +40,7 @@ pub(crate) fn most_terms(condition: i32) -> u64
     if condition == 0 { 0x10_0000 } else { 0xf_ffff }
 }
 
-/// What the numbers of a statement have to stay below under the condition of this number.
+/// Returns the limit that the numbers of a statement have to add up to less than: 2^99 under a condition, else 2^100.
 pub(crate) fn weight_limit(condition: i32) -> u128
     ensures value { result ≡ weight_limit condition }
     ensures small { result ≤ 2 ^ 100 }

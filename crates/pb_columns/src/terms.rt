@@ -7,7 +7,7 @@ use crate::number::{signed, wide};
 use pb_base::{NoMemory, Term, TermColumn};
 use std::alloc::Global;
 
-/// Whether there are as many words as literals, or twice as many.
+/// True if there is one word, or two, for each literal.
 pub(crate) fn has_words(words: &[u64], count: usize) -> bool
     ensures { IsTrue result ↔ HasWords words.now count }
 {
@@ -15,7 +15,7 @@ pub(crate) fn has_words(words: &[u64], count: usize) -> bool
     words == count || (words % 2 == 0 && words / 2 == count)
 }
 
-// The coefficient at a place.
+// Returns the coefficient of the literal at this position, from 0.
 fn coefficient_at(words: &[u64], count: usize, place: usize) -> i128
     requires words { HasWords words.now count }
     requires within { place < count }
@@ -28,7 +28,7 @@ fn coefficient_at(words: &[u64], count: usize, place: usize) -> i128
     }
 }
 
-/// The terms of coefficients and literals.
+/// Returns the terms of coefficients and literals.
 pub(crate) fn terms_of(
     alloc: Global,
     words: &[u64],

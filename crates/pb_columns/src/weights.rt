@@ -8,7 +8,7 @@ ghost use Rattle.pb_columns.specs.Columns.{FindsHeavy, IsLight};
 use crate::sum::{PbcnfSum, weight_limit};
 use pb_base::{Statement, Statements, TermsLeft};
 
-// The absolute values of the numbers of a statement, added up, or the greatest number where that is less.
+// Returns the absolute values of the numbers of a statement, added up, but at most 2^128 - 1.
 fn size(terms: TermsLeft<'_>, right: i128) -> u128
     ensures { result ≡ min (magnitude terms.entry + unsigned_abs right) (2 ^ 128 - 1) }
 {
@@ -19,14 +19,14 @@ fn size(terms: TermsLeft<'_>, right: i128) -> u128
     sum
 }
 
-// Whether the numbers of a statement add up to less than the limit under the condition of a number.
+// True if the numbers of a statement add up to less than the limit under the condition of a number.
 fn is_light(statement: Statement<'_>, condition: i32) -> bool
     ensures { IsTrue result ↔ IsLight condition (raw_of statement.entry) }
 {
     size(statement.terms, statement.right) < weight_limit(condition)
 }
 
-/// The place, from 1, of the first statement whose numbers add up to the limit or more.
+/// Returns the position, from 1, of the first statement whose numbers add up to the limit or more.
 pub(crate) fn first_heavy(sums: &[PbcnfSum], statements: &Statements) -> Option<u64>
     requires { length statements.now ≡ length sums.now }
     ensures { FindsHeavy sums.now statements.now result }
