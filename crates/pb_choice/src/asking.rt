@@ -4,14 +4,15 @@ ghost use Rattle.pb_choice.specs.Equals.{asks_for_number, asks_for_some, is_coun
 
 use pb_norm::{Linear, all_weigh, first_coef};
 
-/// How many times the degree has the first coefficient.
+/// Returns the degree divided by the first coefficient, rounded down: how many literals the equality asks to be true, if all coefficients
+/// are alike.
 pub fn number_asked(lower: &Linear) -> u128
     ensures { result ≡ number_asked lower.now }
 {
     lower.degree() / first_coef(lower.terms())
 }
 
-// Whether all coefficients are the first one, and the degree is as many times that.
+// True if all coefficients are equal and the degree is a whole multiple of them, so that the sum counts literals.
 fn is_counting(lower: &Linear) -> bool
     ensures { result ≡ is_counting lower.now }
 {
@@ -20,7 +21,7 @@ fn is_counting(lower: &Linear) -> bool
     all_weigh(lower.terms(), coef) && lower.degree() == whole
 }
 
-// Whether of at least three literals some are to be true, but not all.
+// True if there are at least three literals, of which at least one is to be true, but not all.
 fn asks_for_some(lower: &Linear) -> bool
     ensures { result ≡ asks_for_some lower.now }
 {
@@ -29,7 +30,7 @@ fn asks_for_some(lower: &Linear) -> bool
     3 <= count && (1 <= number && number < count)
 }
 
-/// Whether a number of the literals is asked for.
+/// True if the equality says that exactly so many of at least three literals are true, neither none nor all.
 pub fn asks_for_number(lower: &Linear) -> bool
     ensures { result ≡ asks_for_number lower.now }
 {

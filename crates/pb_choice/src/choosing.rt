@@ -16,7 +16,7 @@ use pb_base::{Amo, Card, General, NoMemory, Options};
 use pb_norm::{AtMost, Rest};
 use std::alloc::Global;
 
-// For at most one literal.
+// Returns the encoding of at most one literal that the option names, by size if none is named.
 fn one_of(amo: Amo, sum: AtMost) -> Chosen
     requires class { IsAtMostOne sum }
     requires light { weight sum.terms < 2 ^ 100 }
@@ -34,7 +34,7 @@ fn one_of(amo: Amo, sum: AtMost) -> Chosen
     }
 }
 
-// For at most so many literals.
+// Builds the encoding of a cardinality constraint that the option names, by the bound if none is named; the adder past the budget.
 fn card_of(alloc: Global, options: &Options, sum: AtMost) -> Result<Chosen, NoMemory>
     requires class { IsCardinality sum }
     requires light { weight sum.terms < 2 ^ 100 }
@@ -49,7 +49,7 @@ fn card_of(alloc: Global, options: &Options, sum: AtMost) -> Result<Chosen, NoMe
     }
 }
 
-// For a sum with weights.
+// Builds the encoding of a sum with weights that the option names; the adder past the budget.
 fn general_of(alloc: Global, options: &Options, sum: AtMost) -> Result<Chosen, NoMemory>
     requires class { IsProper sum }
     requires light { weight sum.terms < 2 ^ 100 }
@@ -62,7 +62,7 @@ fn general_of(alloc: Global, options: &Options, sum: AtMost) -> Result<Chosen, N
     }
 }
 
-/// What is left of a constraint, with the family that is chosen for it.
+/// Builds the family that encodes a residual constraint by its class, the options and the budget; nothing is built for a clause or less.
 pub fn residual_of<'a>(
     alloc: Global,
     options: &Options,
@@ -82,7 +82,7 @@ pub fn residual_of<'a>(
     }
 }
 
-/// The same where the adder is known to be chosen: nothing else is built first.
+/// Builds the adder for a residual constraint that is known to get it, without first building the family that would pass the budget.
 pub fn adder_left<'a>(
     alloc: Global,
     options: &Options,

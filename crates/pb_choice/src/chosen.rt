@@ -7,7 +7,7 @@ use pb_counter::Counter;
 use pb_family::{ClauseSink, Derive, Family, SinkResult, StepSink};
 use std::alloc::Global;
 
-/// A sum and the family that stands for it. What takes time to build is built once.
+/// A sum and the family that encodes it. What takes time to build is built once.
 pub enum Chosen {
     Pairwise(AtMostOne),
     Ladder(AtMostOne),
@@ -37,7 +37,7 @@ impl Chosen {
     ghost use Rattle.std.specs.Prelude.{◌≡◌};
     ghost use Rattle.pb_choice.specs.Chosen.{treatment_at};
 
-    /// Which family it is.
+    /// Returns the treatment that names the family.
     pub fn treatment(&self) -> Treatment
         ensures { result ≡ treatment_at self.now }
     {
@@ -68,6 +68,7 @@ impl Family for Chosen {
 
     ghost clause_list = { λ f first. sum_clauses (treatment_at f) (sum_at f) first };
 
+    // Returns the number of fresh variables of the chosen family.
     fn fresh(&self) -> u64 {
         match self {
             Chosen::Pairwise(held) => Pairwise::over(&held.sum).fresh(),
@@ -81,6 +82,7 @@ impl Family for Chosen {
         }
     }
 
+    // Returns the number of clauses of the chosen family.
     fn clauses(&self) -> u64 {
         match self {
             Chosen::Pairwise(held) => Pairwise::over(&held.sum).clauses(),
@@ -94,6 +96,7 @@ impl Family for Chosen {
         }
     }
 
+    // Emits the clauses of the chosen family.
     fn emit<S: ClauseSink>(&self, alloc: Global, first: u32, sink: &mut S) -> SinkResult {
         match self {
             Chosen::Pairwise(held) => Pairwise::over(&held.sum).emit(alloc, first, sink),
@@ -124,6 +127,7 @@ impl Derive for Chosen {
 
     ghost step_list = { λ f. sum_steps (treatment_at f) (sum_at f) };
 
+    // Emits the steps that derive the clauses of the chosen family.
     fn derive<T: StepSink>(&self, alloc: Global, first: u32, id: u64, sink: &mut T) -> SinkResult {
         match self {
             Chosen::Pairwise(held) => Pairwise::over(&held.sum).derive(alloc, first, id, sink),

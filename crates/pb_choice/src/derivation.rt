@@ -14,7 +14,7 @@ use pb_family::{Derive, SinkResult, StepSink, derive_deletion, derive_propagated
 use pb_steps::Step;
 use std::alloc::Global;
 
-/// Hands over that each unit follows from the constraint with an id, and its clause.
+/// Emits for each unit the step that it follows from the constraint with an id, and its clause.
 pub fn derive_units<T: StepSink>(alloc: Global, units: &Lits, id: u64, sink: &mut T) -> SinkResult
     requires room { (T.state sink.old).next + length units.now < 2 ^ 62 }
     ensures { HandsClaims (unit_claims id units.now) result (T.state sink.old) (T.state sink.new) }
@@ -25,7 +25,7 @@ pub fn derive_units<T: StepSink>(alloc: Global, units: &Lits, id: u64, sink: &mu
     Ok(())
 }
 
-/// Hands over the step that gives a sum's constraint, the steps of its clauses, and that the constraint goes.
+/// Emits the step that gives a sum's constraint, the steps of its clauses, and the deletion of that constraint.
 pub fn derive_reduced<T: StepSink>(
     alloc: Global,
     chosen: &Chosen,

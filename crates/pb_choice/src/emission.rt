@@ -6,7 +6,7 @@ ghost use Rattle.pb_choice.specs.Clauses.{unit_clause};
 use pb_base::{Failed, Lit, Lits};
 use pb_family::{ClauseSink, SinkResult};
 
-/// Hands over unit clauses.
+/// Emits unit clauses.
 pub fn emit_units<S: ClauseSink>(units: &Lits, sink: &mut S) -> Result<(), Failed>
     ensures { Hands (map unit_clause units.now) result (S.state sink.old) (S.state sink.new) }
 {
@@ -16,7 +16,7 @@ pub fn emit_units<S: ClauseSink>(units: &Lits, sink: &mut S) -> Result<(), Faile
     Ok(())
 }
 
-/// Hands over one clause.
+/// Emits one clause.
 pub fn emit_one<S: ClauseSink>(clause: &[Lit], sink: &mut S) -> SinkResult
     ensures { HandsIfMemory (clause.now ∷ []) result (S.state sink.old) (S.state sink.new) }
 {

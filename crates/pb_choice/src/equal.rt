@@ -15,7 +15,7 @@ pub enum EqualPlan<'a> {
     Split(Plan<'a>, Plan<'a>),
 }
 
-// Written out, as that of a plan is.
+// Written out: one call in the proof of a function that owns it.
 impl Drop for EqualPlan<'_> {
     fn drop(self) {
         match self {
@@ -31,7 +31,7 @@ impl EqualPlan<'_> {
     ghost use Rattle.pb_family.specs.StepSinks.{HandsFrom};
     ghost use Rattle.pb_choice.specs.EqualPlans.{IsPlannedBelow, planned_clauses, planned_count, planned_fresh, planned_steps};
 
-    /// How many fresh variables and clauses the encoding has.
+    /// Returns the numbers of fresh variables and clauses of the equality's encoding; nothing is built for that.
     pub fn counts(&self) -> Counts
         // The number of fresh variables is the plan's.
         ensures fresh { result.fresh ≡ planned_fresh self.now }
@@ -47,7 +47,7 @@ impl EqualPlan<'_> {
         }
     }
 
-    /// Hands over the clauses, with the fresh variables from `first` on.
+    /// Emits the clauses, with the fresh variables from `first` on.
     pub fn emit<S: ClauseSink>(&self, alloc: Global, first: u32, sink: &mut S) -> SinkResult
         requires original { IsPlannedBelow first self.now }
         requires low { 1 ≤ first }
@@ -61,7 +61,7 @@ impl EqualPlan<'_> {
         }
     }
 
-    /// Hands over the steps that derive these clauses from the two halves, which have the ids `low` and `high`.
+    /// Emits the steps that derive the equality's clauses from the two halves, which have the ids `low` and `high`.
     pub fn derive<T: StepSink>(
         &self,
         alloc: Global,

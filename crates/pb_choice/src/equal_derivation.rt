@@ -12,7 +12,7 @@ use pb_steps::{PolOp, PolOps, Step};
 use pb_totalizer::Exact;
 use std::alloc::{AllocError, Global};
 
-// All numbers of the constraint with the id, divided.
+// Returns the step that divides all numbers of the constraint with an id.
 fn quotient_step(alloc: Global, id: u64, coef: &i128) -> Result<Step, AllocError>
     ensures { IfOk result (λ step. step ≡ quotient_step id coef.now) }
 {
@@ -22,7 +22,7 @@ fn quotient_step(alloc: Global, id: u64, coef: &i128) -> Result<Step, AllocError
     Ok(Step::Pol(PolOps::from_vec(ops)))
 }
 
-// Hands over that all numbers of the constraint with an id are divided.
+// Emits the step that divides all numbers of the constraint with an id.
 fn derive_quotient<T: StepSink>(alloc: Global, id: u64, coef: &i128, sink: &mut T) -> SinkResult
     requires few { (T.state sink.old).next < 2 ^ 62 }
     ensures { HandsSteps (quotient_step id coef.now ∷ []) result (T.state sink.old) (T.state sink.new) }
@@ -31,7 +31,7 @@ fn derive_quotient<T: StepSink>(alloc: Global, id: u64, coef: &i128, sink: &mut 
     sink.step(&step)
 }
 
-/// Hands over that both halves are divided by their coefficient, the steps of the clauses, and that the quotients go.
+/// Emits the division of both halves by their coefficient, the steps of the clauses, and the deletion of the quotients.
 pub fn derive_joint<T: StepSink>(
     alloc: Global,
     exact: &Exact,

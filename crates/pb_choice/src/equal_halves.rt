@@ -17,7 +17,7 @@ pub struct HalfIds {
     pub high: u64,
 }
 
-/// How many fresh variables and clauses both have.
+/// Returns the numbers of fresh variables and clauses of both halves together.
 pub fn count_halves(lower: &Plan<'_>, upper: &Plan<'_>) -> Counts
     ensures fresh { result.fresh ≡ plan_fresh lower.now + plan_fresh upper.now }
     ensures clauses { result.clauses ≡ plan_count lower.now + plan_count upper.now }
@@ -30,7 +30,7 @@ pub fn count_halves(lower: &Plan<'_>, upper: &Plan<'_>) -> Counts
     }
 }
 
-/// Hands over the clauses of the lower half and then those of the upper one, whose fresh variables come after.
+/// Emits the clauses of the lower half and then those of the upper one, whose fresh variables come after.
 pub fn emit_halves<S: ClauseSink>(
     alloc: Global,
     lower: &Plan<'_>,
@@ -46,7 +46,7 @@ pub fn emit_halves<S: ClauseSink>(
     upper.emit(alloc, next, sink)
 }
 
-/// Hands over the steps of the lower half and then those of the upper one, which have the ids.
+/// Emits the steps of the lower half and then those of the upper one, which have the ids.
 pub fn derive_halves<T: StepSink>(
     alloc: Global,
     lower: &Plan<'_>,

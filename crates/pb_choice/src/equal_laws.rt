@@ -12,9 +12,8 @@ pub fn equalities_encode()
     ensures { EqualitiesEncode }
 {}
 
-/// The laws of unit propagation over them. It reaches all that each half forces, or a conflict, but for halves that are sent to
-/// the adder; and where the equality is encoded as one, all that both halves force together, and each output that its leaves
-/// decide.
+/// The laws of unit propagation over an equality's clauses. It reaches all that each half forces, or a conflict, but for halves that are
+/// sent to the adder; and if the equality is encoded as one, all that both halves force together, and each output that its leaves decide.
 pub fn equalities_force()
     // Propagation over the clauses reaches all that each half forces, or a conflict, but for halves that are sent to the adder.
     ensures halves { EqualitiesForce }

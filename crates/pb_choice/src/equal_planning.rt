@@ -19,7 +19,7 @@ use pb_norm::{Linear, first_coef, lits_of};
 use pb_totalizer::Exact;
 use std::alloc::{AllocError, Global};
 
-// Whether equalities may be encoded as one.
+// True if equalities may be encoded as one by these options.
 fn is_joining(mode: EqualMode) -> bool
     ensures { result ≡ is_joining mode }
 {
@@ -29,7 +29,7 @@ fn is_joining(mode: EqualMode) -> bool
     }
 }
 
-// The literals of a constraint.
+// Returns the literals of a constraint, without their coefficients.
 fn lits_under(alloc: Global, lower: &Linear) -> Result<Lits, AllocError>
     ensures linear { IsLinear lower.now }
     ensures few { length lower.now.terms < 2 ^ 31 }
@@ -39,7 +39,7 @@ fn lits_under(alloc: Global, lower: &Linear) -> Result<Lits, AllocError>
     Ok(Lits::from_vec(lits))
 }
 
-// The totalizer of an equality with this lower half, where it is encoded as one.
+// Builds the totalizer of an equality with this lower half; `None` if the equality is encoded half by half.
 fn exact_of(alloc: Global, lower: &Linear, options: &Options) -> Result<Option<Exact>, NoMemory>
     ensures { IfOk result (λ found. MatchOption found (is_joint options.now lower.now ≡ false) (λ exact. (is_joint options.now lower.now ≡ true) × (exact_sum exact ≡ literals_asked lower.now))) }
 {
@@ -57,7 +57,7 @@ fn exact_of(alloc: Global, lower: &Linear, options: &Options) -> Result<Option<E
     }
 }
 
-// The coefficient of the first literal.
+// Returns the coefficient of the first literal; for an equality that counts, that of all.
 fn coef_of(lower: &Linear) -> i128
     requires light { weight lower.now.terms < 2 ^ 100 }
     ensures { result ≡ pos (first_coef lower.now.terms) }
@@ -65,7 +65,7 @@ fn coef_of(lower: &Linear) -> i128
     first_coef(lower.terms()) as i128
 }
 
-// Plans the encoding of an equality half by half. The same may be known of both halves.
+// Plans the encoding of an equality half by half, both with the same prior knowledge.
 fn plan_halves<'a>(
     alloc: Global,
     lower: &'a Linear,
@@ -110,7 +110,7 @@ pub fn plan_equal<'a>(
     }
 }
 
-/// The same where the equality is not encoded as one, and both halves are known to go to the adder.
+/// Plans the encoding of an equality half by half if both halves are known to go to the adder, without building any other family first.
 pub fn plan_adders<'a>(
     alloc: Global,
     lower: &'a Linear,

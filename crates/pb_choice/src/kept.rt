@@ -29,14 +29,14 @@ impl Model for Kept {
 }
 
 impl Kept {
-    /// How many fresh variables it has.
+    /// Returns the number of fresh variables of the stored family.
     pub fn fresh(&self) -> u64 {
         self.chosen.fresh()
     }
 }
 
 impl Plan<'_> {
-    /// The diagram that was built, if one was: it took a search, which whoever plans the constraint again need not make.
+    /// Returns the diagram that was built, if one was: it took a search, which whoever plans the constraint again need not make.
     pub fn into_kept(self) -> Option<Kept>
         // A diagram that is given is the one that these options and this constraint have.
         ensures { IfSome result (IsKeptOf self.entry.options self.entry.constraint.now) }
@@ -63,7 +63,7 @@ pub fn plan_kept<'a>(
     requires kept { IsKeptOf options.now constraint.now kept.now }
     // The plan is of this constraint.
     ensures constraint { IfOk result (λ plan. plan.constraint.now ≡ constraint.now) }
-    // It is by these options.
+    // The plan is by these options.
     ensures options { IfOk result (λ plan. plan.options ≡ options.now) }
 {
     plan_by(alloc, constraint, options, Known::Kept(&kept.chosen))

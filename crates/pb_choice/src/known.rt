@@ -1,7 +1,7 @@
 //! What is known of how a constraint is encoded before it is planned.
 use crate::chosen::Chosen;
 
-/// What is known already of what is left of a constraint.
+/// Prior knowledge of how a residual constraint is encoded, from an earlier plan of the same constraint.
 #[derive(Clone, Copy)]
 pub enum Known<'a> {
     /// Nothing.

@@ -4,13 +4,13 @@ ghost use Rattle.std.specs.Prelude.{◌≡◌, IfSome};
 use crate::chosen::Chosen;
 use std::marker::Model;
 
-/// Where a family is. It stands in memory of its own: most constraints are clauses, and the plan of one takes little room.
+/// A family that is owned, or borrowed from a store. It is boxed, so that the plan of a clause, which most constraints are, stays small.
 pub enum Owner<'a> {
     Own(Box<Chosen>),
     Kept(&'a Chosen),
 }
 
-// Written out, as that of a family is.
+// Written out: one call in the proof of a function that owns it.
 impl Drop for Owner<'_> {
     fn drop(self) {
         match self {
@@ -23,7 +23,7 @@ impl Drop for Owner<'_> {
 impl Owner<'_> {
     ghost use Rattle.pb_choice.specs.inner.Lent.{chosen_in};
 
-    // The family that it has itself.
+    // Returns the family if it is owned, and `None` if it is borrowed.
     fn into_own(self) -> Option<Box<Chosen>>
         ensures { IfSome result (λ chosen. chosen.value ≡ chosen_in self.entry) }
     {
@@ -50,7 +50,7 @@ impl<'a> Model for Lent<'a> {
 }
 
 impl<'a> Lent<'a> {
-    /// One that was built.
+    /// Takes over a family that was built for this plan.
     pub fn own(chosen: Box<Chosen>) -> Lent<'a>
         ensures { result ≡ chosen.value }
     {
@@ -59,7 +59,7 @@ impl<'a> Lent<'a> {
         }
     }
 
-    /// One that was kept.
+    /// Borrows a family that was stored by an earlier plan.
     pub fn kept(chosen: &'a Chosen) -> Lent<'a>
         ensures { result ≡ chosen.now }
     {
@@ -68,7 +68,7 @@ impl<'a> Lent<'a> {
         }
     }
 
-    /// The family.
+    /// Returns the family, owned or borrowed.
     pub fn chosen(&self) -> &Chosen
         ensures { result.now ≡ self.now }
     {
@@ -78,7 +78,7 @@ impl<'a> Lent<'a> {
         }
     }
 
-    /// The family, if it was built for this plan.
+    /// Returns the family if it was built for this plan, and `None` if it is borrowed.
     pub fn into_own(self) -> Option<Box<Chosen>>
         ensures { IfSome result (λ chosen. chosen.value ≡ self.entry) }
     {

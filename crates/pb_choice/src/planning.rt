@@ -19,7 +19,7 @@ use pb_base::{NoMemory, Options};
 use pb_norm::{Linear, Reduced, Rest, reduce};
 use std::alloc::Global;
 
-// What is left of a constraint of which something may be known.
+// Chooses the encoding of a residual constraint, and builds only what is not known already.
 fn left_of<'a>(
     alloc: Global,
     options: &Options,
@@ -75,8 +75,7 @@ pub fn plan<'a>(
     plan_by(alloc, constraint, options, Known::Nothing)
 }
 
-/// The same of a constraint that is known to go to the adder, as a plan of it told: the family that it would pass the budget with
-/// is not built first.
+/// Plans the encoding of a constraint that goes to the adder by an earlier plan, without building the family that passed the budget.
 pub fn plan_adder<'a>(
     alloc: Global,
     constraint: &'a Linear,

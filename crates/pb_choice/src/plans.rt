@@ -24,7 +24,7 @@ use pb_family::{ClauseSink, SinkResult, StepSink};
 use pb_norm::Linear;
 use std::alloc::Global;
 
-/// How many fresh variables and clauses an encoding has.
+/// The numbers of fresh variables and clauses of an encoding.
 #[derive(Clone, Copy, Debug)]
 pub struct Counts {
     pub fresh: u64,
@@ -55,7 +55,7 @@ impl Drop for Plan<'_> {
 }
 
 impl Plan<'_> {
-    /// How many fresh variables and clauses the encoding has.
+    /// Returns the numbers of fresh variables and clauses of the encoding; nothing is built for that.
     pub fn counts(&self) -> Counts
         // The number of fresh variables is the defined one.
         ensures fresh { result.fresh ≡ constraint_fresh self.now.options self.now.constraint.now }
@@ -72,7 +72,7 @@ impl Plan<'_> {
         }
     }
 
-    /// How what is left of the constraint is encoded.
+    /// Returns the treatment of the residual constraint, which says how it is encoded.
     pub fn treatment(&self) -> Treatment
         // The treatment is the defined one: by class, options and the budget, past which a cardinality or general constraint is sent to
         // the adder.
@@ -81,7 +81,7 @@ impl Plan<'_> {
         self.left.treatment()
     }
 
-    /// The family that was built for what is left, if one was.
+    /// Returns the family that was built for the residual constraint, if one was.
     pub(crate) fn into_own(self) -> Option<Box<Chosen>>
         ensures { IfSome result (λ chosen. IsLeft self.entry.options (rest_of self.entry.constraint.now) (Sum chosen.value)) }
     {
@@ -94,7 +94,7 @@ impl Plan<'_> {
         left.into_own()
     }
 
-    /// Hands over the clauses: the units, and then those of what is left, with the fresh variables from `first` on.
+    /// Emits the clauses: the units, and then those of the residual constraint, with the fresh variables from `first` on.
     pub fn emit<S: ClauseSink>(&self, alloc: Global, first: u32, sink: &mut S) -> SinkResult
         requires original { VarsBelow first self.now.constraint.now.terms }
         requires low { 1 ≤ first }
@@ -106,8 +106,8 @@ impl Plan<'_> {
         self.left.emit(alloc, first, sink)
     }
 
-    /// Hands over the steps that derive these clauses from the constraint, which has the id: those of the units, and then
-    /// those of what is left.
+    /// Emits the steps that derive the plan's clauses from the constraint, which has the id: those of the units, and then those of the
+    /// residual constraint.
     pub fn derive<T: StepSink>(
         &self,
         alloc: Global,

@@ -22,7 +22,7 @@ pub struct Origin<'a> {
     pub id: u64,
 }
 
-// What the terms above the slack leave of the degree.
+// Returns the degree less the coefficients above the slack, and 0 if they are more.
 fn degree_left(terms: &[Term], slack: u128, degree: u128) -> u128
     ensures { result ≡ degree - weight (filter (is_above slack) (weights terms.now)) }
 {
@@ -35,7 +35,7 @@ fn degree_left(terms: &[Term], slack: u128, degree: u128) -> u128
     left
 }
 
-// The first coefficient within the slack, cut at the degree, and 1 if there is none.
+// Returns the first coefficient that is at most the slack, capped at the degree, and 1 if there is none.
 fn first_cut(terms: &[Term], slack: u128, degree: u128) -> u128
     requires { degree < 2 ^ 127 }
     ensures small { result < 2 ^ 127 }
@@ -49,7 +49,7 @@ fn first_cut(terms: &[Term], slack: u128, degree: u128) -> u128
     1
 }
 
-// Whether all coefficients within the slack, cut at the degree, are this number.
+// True if all coefficients that are at most the slack, capped at the degree, are equal to `coef`.
 fn all_cut(terms: &[Term], slack: u128, degree: u128, coef: u128) -> bool
     ensures { result ≡ all_weigh coef (cut_terms slack degree (weights terms.now)) }
 {
@@ -61,7 +61,7 @@ fn all_cut(terms: &[Term], slack: u128, degree: u128, coef: u128) -> bool
     true
 }
 
-// By what a constraint is divided once its units are gone.
+// Returns the number by which a constraint is divided once its units are gone: the saturated coefficient that all terms have, or 1.
 fn divisor(constraint: &Linear) -> i128
     ensures { result ≡ pos (divisor constraint.now) }
 {
@@ -86,7 +86,7 @@ fn push_units(ops: &mut Vec<PolOp>, units: &[Lit]) -> Result<(), AllocError>
     Ok(())
 }
 
-// Adds all operations.
+// Appends all operations of the reduction: weaken the units away, saturate, divide.
 fn push_reducing(ops: &mut Vec<PolOp>, origin: &Origin<'_>) -> Result<(), AllocError>
     ensures { IfOk result (λ _. ops.new.items ≡ ops.old.items ++ reducing origin.now.id origin.now.units.now (divisor origin.now.constraint.now)) }
 {
@@ -97,7 +97,7 @@ fn push_reducing(ops: &mut Vec<PolOp>, origin: &Origin<'_>) -> Result<(), AllocE
     Ok(())
 }
 
-/// The constraint without its units, saturated and divided.
+/// Returns the step that takes the units out of a constraint, saturates it and divides it.
 pub fn reducing_step(alloc: Global, origin: &Origin<'_>) -> Result<Step, AllocError>
     ensures { IfOk result (λ step. step ≡ reduction origin.now.id origin.now.units.now origin.now.constraint.now) }
 {

@@ -10,7 +10,7 @@ use pb_base::{Lits, NoMemory};
 use pb_family::{ClauseSink, Family, SinkResult, StepSink, derive_propagated};
 use std::alloc::Global;
 
-/// What is left of a constraint, with the family that was chosen for it.
+/// A residual constraint, with the family that was chosen for it.
 pub enum Residual<'a> {
     /// Nothing.
     Nothing,
@@ -22,7 +22,7 @@ pub enum Residual<'a> {
     Sum(Lent<'a>),
 }
 
-// Written out, as that of a family is.
+// Written out: one call in the proof of a function that owns it.
 impl Drop for Residual<'_> {
     fn drop(self) {
         match self {
@@ -37,7 +37,7 @@ impl<'a> Residual<'a> {
     ghost use Rattle.std.specs.Prelude.{◌≡◌, IfOk};
     ghost use Rattle.pb_choice.specs.declared.residual.Residual.TheVariants.{Sum};
 
-    /// A sum, with the family that was built for it.
+    /// Stores a sum with the family that was built for it.
     pub fn own(alloc: Global, chosen: Chosen) -> Result<Residual<'a>, NoMemory>
         ensures { IfOk result (λ left. left ≡ Sum chosen) }
     {
@@ -55,7 +55,7 @@ impl Residual<'_> {
     ghost use Rattle.pb_choice.specs.Reducing.{reduction};
     ghost use Rattle.pb_choice.specs.Residual.{left_clauses, left_count, left_fresh, left_steps, left_terms, left_treatment};
 
-    /// How it is encoded.
+    /// Returns the treatment of the residual constraint.
     pub fn treatment(&self) -> Treatment
         ensures { result ≡ left_treatment self.now }
     {
@@ -67,7 +67,7 @@ impl Residual<'_> {
         }
     }
 
-    /// The family, if one was built for this plan.
+    /// Returns the family, if one was built for this plan.
     pub fn into_own(self) -> Option<Box<Chosen>>
         ensures { IfSome result (λ chosen. self.entry ≡ Sum chosen.value) }
     {
@@ -77,7 +77,7 @@ impl Residual<'_> {
         }
     }
 
-    /// How many fresh variables it has.
+    /// Returns the number of fresh variables: 0 for a clause or less.
     pub fn fresh(&self) -> u64
         ensures { result ≡ left_fresh self.now }
     {
@@ -87,7 +87,7 @@ impl Residual<'_> {
         }
     }
 
-    /// How many clauses it has.
+    /// Returns the number of clauses: 0 if nothing is left, 1 for a clause or the empty one.
     pub fn clauses(&self) -> u64
         ensures { result ≡ left_count self.now }
     {
@@ -98,7 +98,7 @@ impl Residual<'_> {
         }
     }
 
-    /// Hands over its clauses, with the fresh variables from `first` on.
+    /// Emits the clauses of the residual constraint, with the fresh variables from `first` on.
     pub fn emit<S: ClauseSink>(&self, alloc: Global, first: u32, sink: &mut S) -> SinkResult
         requires original { VarsBelow first (left_terms self.now) }
         requires low { 1 ≤ first }
@@ -113,7 +113,7 @@ impl Residual<'_> {
         }
     }
 
-    /// Hands over the steps that derive its clauses from the constraint, with the fresh variables from `first` on.
+    /// Emits the steps that derive the clauses of the residual constraint, with the fresh variables from `first` on.
     pub fn derive<T: StepSink>(
         &self,
         alloc: Global,

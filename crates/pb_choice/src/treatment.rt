@@ -1,6 +1,6 @@
 //! How constraints are treated.
 
-/// How what is left of a constraint is encoded, once its units are taken.
+/// A way to encode a residual constraint, whose units are taken out.
 #[derive(Clone, Copy, Debug)]
 pub enum Treatment {
     /// Nothing is left.

@@ -19,7 +19,7 @@ use pb_norm::AtMost;
 use pb_totalizer::Totalizer;
 use std::alloc::Global;
 
-/// The adder, however large.
+/// Builds the adder, which no budget limits.
 pub fn adder_of(alloc: Global, sum: AtMost) -> Result<Chosen, NoMemory>
     requires light { weight sum.terms < 2 ^ 100 }
     ensures { IfOk result (IsChosen Treatment.Adder sum) }
@@ -30,7 +30,7 @@ pub fn adder_of(alloc: Global, sum: AtMost) -> Result<Chosen, NoMemory>
     Ok(Chosen::Adder(AdderOf { sum, family }))
 }
 
-/// The counter, or the adder.
+/// Builds the counter, or the adder if the counter has more fresh variables than the budget.
 pub fn counter_within(alloc: Global, sum: AtMost, options: &Options) -> Result<Chosen, NoMemory>
     requires class { IsCardinality sum }
     requires light { weight sum.terms < 2 ^ 100 }
@@ -44,7 +44,7 @@ pub fn counter_within(alloc: Global, sum: AtMost, options: &Options) -> Result<C
     Ok(Chosen::Counter(Cardinality { sum }))
 }
 
-/// The totalizer, or the adder.
+/// Builds the totalizer, or the adder if the totalizer has more fresh variables than the budget.
 pub fn totalizer_within(alloc: Global, sum: AtMost, options: &Options) -> Result<Chosen, NoMemory>
     requires class { IsCardinality sum }
     requires light { weight sum.terms < 2 ^ 100 }
@@ -58,7 +58,7 @@ pub fn totalizer_within(alloc: Global, sum: AtMost, options: &Options) -> Result
     }
 }
 
-/// The diagram, or the adder.
+/// Builds the diagram, or the adder if the diagram has more fresh variables than the budget.
 pub fn diagram_within(alloc: Global, sum: AtMost, options: &Options) -> Result<Chosen, NoMemory>
     requires class { IsProper sum }
     requires light { weight sum.terms < 2 ^ 100 }
@@ -72,7 +72,7 @@ pub fn diagram_within(alloc: Global, sum: AtMost, options: &Options) -> Result<C
     }
 }
 
-/// The generalized totalizer, or the adder.
+/// Builds the generalized totalizer, or the adder if the former has more fresh variables than the budget.
 pub fn tree_within(alloc: Global, sum: AtMost, options: &Options) -> Result<Chosen, NoMemory>
     requires class { IsProper sum }
     requires light { weight sum.terms < 2 ^ 100 }
