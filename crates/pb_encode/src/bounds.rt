@@ -40,7 +40,7 @@ fn push_row(out: &mut Vec<u8>, value: &i128, lit: &Lit) -> Result<(), AllocError
     Ok(())
 }
 
-// A value that is so much above an offset.
+// Returns the value that is `above` more than the offset.
 fn value_at(offset: &i128, above: &i128) -> i128
     requires offset { unsigned_abs offset.now < 2 ^ 126 }
     requires above { unsigned_abs above.now < 2 ^ 126 }
@@ -59,7 +59,7 @@ fn push_rows(out: &mut Vec<u8>, rows: &[(i128, Lit)]) -> Result<(), AllocError>
     Ok(())
 }
 
-// The rows of a table, whose values are from an offset on.
+// Returns the rows of a table with an offset added to their values, ascending.
 fn rows_at(
     alloc: Global,
     table: &BoundTable,
@@ -83,8 +83,12 @@ fn rows_at(
     Ok(rows)
 }
 
-/// The rows of a problem's table of bounds, which is built anew, values ascending: a value that the objective may be below, and the
-/// literal that is false just there. None where no table is asked for. `NoMemory` is the only fault.
+/// Returns the rows of a problem's table of bounds, which is built anew, values ascending: a value that the objective may be below, and
+/// the literal that is false just there. There are none if no table is requested. `NoMemory` is the only fault.
+///
+/// ```text
+/// min: +2 x1 +3 x2 ; +1 x1 +1 x2 >= 1 ;     (2, x3), (3, x4), (5, x5)
+/// ```
 pub fn bound_rows(
     alloc: Global,
     problem: &Problem,
@@ -105,7 +109,7 @@ pub fn bound_rows(
     rows_at(alloc, &table, first, &offset)
 }
 
-/// The two lines of a summary and, where there is a table of bounds, a line `bound W L` for each row of a value W and a literal L.
+/// Returns the two lines of a summary and, if there is a table of bounds, a line `bound W L` for each row of a value W and a literal L.
 /// `NoMemory` is the only fault.
 pub fn words_of(
     alloc: Global,

@@ -17,7 +17,7 @@ use pb_base::Options;
 use pb_family::{SinkResult, StepSink};
 use std::alloc::Global;
 
-// Hands over the derivation of a group, and gives where the next one stands.
+// Emits the derivation of a group, and returns the position of the next one.
 fn derive_group<T: StepSink>(
     alloc: Global,
     group: &Group,
@@ -37,8 +37,8 @@ fn derive_group<T: StepSink>(
     plan.derive(alloc, position, sink)
 }
 
-/// Hands over the derivations of all constraints, which stand under the ids from 1 on, and gives where the next one stands. Each
-/// constraint is planned anew, and nothing is kept but what one statement needs.
+/// Emits the derivations of all constraints, which have the ids from 1 on, and returns the position of the next group. Each constraint is
+/// planned anew, and nothing is kept but what one statement needs.
 pub fn derive_loaded<T: StepSink>(
     alloc: Global,
     input: &Encodable<'_>,

@@ -15,7 +15,7 @@ use pb_family::SinkResult;
 use pb_norm::halves_of;
 use std::alloc::Global;
 
-// How many constraints a statement has.
+// Returns the number of constraints of a statement in normal form: 2 of an equality, else 1.
 fn count_of(statement: &Statement<'_>) -> u64
     ensures count { result ≡ length (constraints_of (raw_of statement.now)) }
     ensures few { result ≤ 2 }
@@ -23,7 +23,7 @@ fn count_of(statement: &Statement<'_>) -> u64
     halves_of(statement.relation).len() as u64
 }
 
-// How many statements have.
+// Returns the number of constraints of all statements in normal form.
 fn count_statements(statements: &Statements) -> u64
     requires few { length statements.now ≤ 2 ^ 24 + 1 }
     ensures count { result ≡ length (loaded statements.now) }
@@ -36,7 +36,7 @@ fn count_statements(statements: &Statements) -> u64
     count
 }
 
-// How many products have: one for each literal, and one more.
+// Returns the number of constraints that define products: one for each literal, and one more for each product.
 fn count_products(vars: u32, products: &[Lits]) -> u64
     requires vars { vars + length products.now < 2 ^ 31 }
     requires few { All (λ ls. length ls ≤ 2 ^ 20) products.now }
@@ -50,7 +50,12 @@ fn count_products(vars: u32, products: &[Lits]) -> u64
     count
 }
 
-/// How many constraints a problem has: those that its derivation begins with.
+/// Returns the number of loaded constraints of a problem, which its derivation begins with and its line `f N` states.
+///
+/// ```text
+/// +1 x1 +1 x2 >= 1 ;     1 constraint
+/// +1 x1 +1 x2  = 1 ;     2, one for each half
+/// ```
 pub fn count_loaded(problem: &Problem) -> u64
     requires within { IsWithinLimits problem.now }
     ensures count { result ≡ length (loaded_of problem.now) }
@@ -60,12 +65,13 @@ pub fn count_loaded(problem: &Problem) -> u64
         + count_statements(&problem.statements)
 }
 
-// Its derivation.
+// The derivation of a problem's clauses, as a text.
 impl FileText for Encodable<'_> {
     ghost use Rattle.pb_encode.specs.Encodings.{derivation_text};
 
     ghost text = { λ e. derivation_text e.options.now e.problem.now };
 
+    // Emits the derivation to the slot: the two lines of its head, the steps, and `end`.
     fn send<D: Desk>(&self, alloc: Global, desk: &mut D, slot: u8) -> SinkResult {
         let next = count_loaded(self.problem) + 1;
         let mut outbox = WriteBuffer::new(alloc)?;

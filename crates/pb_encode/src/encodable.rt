@@ -1,4 +1,4 @@
-//! What is encoded: a problem, the options, and what is told of its groups.
+//! The input of an encoding: a problem, the options, and the advice on its groups.
 //!
 //! The problem, the options and the hints go through all passes together. That the problem is within its limits, that its encoding
 //! passes none, and that the hints are right for its groups are facts of the type, so no pass requires them; the public calls, whose

@@ -31,7 +31,7 @@ struct Measured<'a> {
     ghost summary_is: { summary ≡ summary_of input.options.now input.problem.now },
 }
 
-// Hands over all lines.
+// Emits the p line and all clauses.
 fn hand_cnf<'a, D: Desk>(
     alloc: Global,
     of: &Measured<'_>,
@@ -48,6 +48,7 @@ impl FileText for Measured<'_> {
 
     ghost text = { λ m. problem_text m.input.options.now m.input.problem.now };
 
+    // Emits the CNF text to the slot.
     fn send<D: Desk>(&self, alloc: Global, desk: &mut D, slot: u8) -> SinkResult {
         let mut outbox = WriteBuffer::new(alloc)?;
         let handed = {
@@ -66,9 +67,15 @@ pub struct Names<'a> {
     pub proof: Option<&'a str>,
 }
 
-/// Writes the CNF of a problem to a new file in slot 0, and then, if it has a name, the derivation of its clauses to one in
-/// slot 1. Of the two files no more than one is open at a time. The size is taken before a file is made, so that a problem which is
-/// not encoded makes none.
+/// Writes the CNF of a problem to a new file in slot 0, and then, if it has a name, the derivation of its clauses to one in slot 1. Of
+/// the two files no more than one is open at a time. The size is taken before a file is made, so that a problem which is not encoded
+/// makes none.
+///
+/// ```text
+/// +1 x1 +1 x2 >= 1 ;                        the problem
+/// p cnf 2 1\n1 2 0\n                        the CNF
+/// rup +1 x1 +1 x2 >= 1 ; 1\nout 2\nend\n     the derivation, after its first two lines
+/// ```
 pub fn encode<D: Desk>(
     alloc: Global,
     problem: &Problem,

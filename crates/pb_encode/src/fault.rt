@@ -9,7 +9,7 @@ use pb_family::SinkFault;
 use std::alloc::AllocError;
 use thiserror::Error;
 
-/// Why a problem is not measured.
+/// The reason why a problem is not measured.
 #[derive(Clone, Copy, Debug, Error)]
 pub enum MeasureFault {
     /// The table of bounds would have more fresh variables than the budget, or there would be too many variables or clauses.
@@ -23,12 +23,13 @@ pub enum MeasureFault {
 impl From<NoMemory> for MeasureFault {
     ghost from_gives = { λ _ e. e ≡ measure.NoMemory };
 
+    // Lets `?` pass on that memory ran out.
     fn from(_: NoMemory) -> Self {
         MeasureFault::NoMemory
     }
 }
 
-/// Why a problem is not encoded.
+/// The reason why a problem is not encoded.
 #[derive(Clone, Copy, Debug, Error)]
 pub enum EncodeFault {
     /// The table of bounds would have more fresh variables than the budget, or there would be too many variables or clauses.
@@ -46,6 +47,7 @@ pub enum EncodeFault {
 impl From<MeasureFault> for EncodeFault {
     ghost from_gives = { λ e f. f ≡ as_encode_fault e };
 
+    // Lets `?` pass on why a problem was not measured.
     fn from(fault: MeasureFault) -> Self {
         match fault {
             MeasureFault::Limit { which } => EncodeFault::Limit { which },
@@ -57,6 +59,7 @@ impl From<MeasureFault> for EncodeFault {
 impl From<Failed> for EncodeFault {
     ghost from_gives = { λ _ f. f ≡ encode.WriteFault };
 
+    // Lets `?` report a failed call of the desk, which counted it, as a write fault.
     fn from(_: Failed) -> Self {
         EncodeFault::WriteFault
     }
@@ -65,6 +68,7 @@ impl From<Failed> for EncodeFault {
 impl From<NoMemory> for EncodeFault {
     ghost from_gives = { λ _ f. f ≡ encode.NoMemory };
 
+    // Lets `?` pass on that memory ran out.
     fn from(_: NoMemory) -> Self {
         EncodeFault::NoMemory
     }
@@ -73,6 +77,7 @@ impl From<NoMemory> for EncodeFault {
 impl From<AllocError> for EncodeFault {
     ghost from_gives = { λ _ f. f ≡ encode.NoMemory };
 
+    // Lets `?` report a refused allocation as want of memory.
     fn from(_: AllocError) -> Self {
         EncodeFault::NoMemory
     }
@@ -81,6 +86,7 @@ impl From<AllocError> for EncodeFault {
 impl From<SinkFault> for EncodeFault {
     ghost from_gives = { λ e f. f ≡ of_sink e };
 
+    // Lets `?` report the fault of a sink: a failed one as a write fault.
     fn from(fault: SinkFault) -> Self {
         match fault {
             SinkFault::Failed => EncodeFault::WriteFault,

@@ -10,12 +10,13 @@ use pb_desk::Desk;
 use pb_family::SinkResult;
 use std::alloc::Global;
 
-/// What a file is made of.
+/// A text that can be written to a file piece by piece.
 pub trait FileText {
     /// The text that the file has.
     ghost text: { Self → List ℕ };
 
-    /// Hands it to an open slot whose file goes on, and ends the file by what is held, also where memory is wanting.
+    /// Emits the text to an open slot whose file is not ended yet, and ends the file after what the buffer holds, even if memory runs
+    /// out.
     fn send<D: Desk>(&self, alloc: Global, desk: &mut D, slot: u8) -> SinkResult
         requires kind { slot < 2 }
         requires open { IsTrue ((D.state desk.old).view.writing slot) }

@@ -34,7 +34,7 @@ impl Drop for GroupPlan<'_> {
     }
 }
 
-// How a constraint by itself is encoded, of which something may be told.
+// Plans the encoding of a single constraint, and builds only what the advice does not give.
 fn plan_alone<'a>(
     alloc: Global,
     constraint: &'a Linear,
@@ -52,7 +52,7 @@ fn plan_alone<'a>(
     }
 }
 
-// How an equality is encoded, of which something may be told.
+// Plans the encoding of an equality, and builds only what the advice does not give.
 fn plan_pair<'a>(
     alloc: Global,
     lower: &'a Linear,
@@ -73,7 +73,7 @@ fn plan_pair<'a>(
     }
 }
 
-/// How a group is encoded under some options. What is told of it is not built again.
+/// Plans the encoding of a group under some options, and builds only what the advice on it does not give.
 pub fn plan_group<'a>(
     alloc: Global,
     group: &'a Group,
@@ -99,7 +99,7 @@ pub fn plan_group<'a>(
 impl<'a> GroupPlan<'a> {
     ghost use Rattle.pb_encode.specs.declared.group_plan.GroupPlan.TheVariants.{Alone};
 
-    /// The plan of the constraint, if it is of one alone.
+    /// Returns the plan of the constraint, if the group is a single one.
     pub fn into_alone(self) -> Option<Plan<'a>>
         ensures { IfSome result (λ plan. self.entry ≡ Alone plan) }
     {
@@ -111,7 +111,7 @@ impl<'a> GroupPlan<'a> {
 }
 
 impl GroupPlan<'_> {
-    /// How many fresh variables and clauses the encoding has.
+    /// Returns the numbers of fresh variables and clauses of the group's encoding.
     pub fn counts(&self) -> Counts
         ensures fresh { result.fresh ≡ plan_fresh self.now }
         ensures clauses { result.clauses ≡ plan_count self.now }
@@ -122,7 +122,7 @@ impl GroupPlan<'_> {
         }
     }
 
-    /// Hands over the clauses, with the fresh variables from `first` on, and gives the first number after these.
+    /// Emits the clauses, with the fresh variables from `first` on, and returns the first number after these.
     pub fn emit<S: ClauseSink>(&self, alloc: Global, first: u32, sink: &mut S) -> SinkResult<u32>
         requires original { IsPlanBelow first self.now }
         requires low { 1 ≤ first }
@@ -142,7 +142,7 @@ impl GroupPlan<'_> {
         }
     }
 
-    /// Hands over the steps that derive these clauses from the constraints, and gives where those of the next group stand.
+    /// Emits the steps that derive the group's clauses from its constraints, and returns the position of the next group.
     pub fn derive<T: StepSink>(
         &self,
         alloc: Global,

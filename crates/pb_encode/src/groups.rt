@@ -36,7 +36,7 @@ pub enum Found {
     Other(Group),
 }
 
-// Written out, as that of a group is.
+// Written out: one call in the proof of a function that owns it.
 impl Drop for Found {
     fn drop(self) {
         match self {
@@ -47,7 +47,7 @@ impl Drop for Found {
 }
 
 impl Found {
-    // The list of a clause.
+    // Returns the list of a clause, to be used again.
     fn into_list(self) -> Option<Vec<Lit>> {
         match self {
             Found::Clause(clause) => Some(clause.lits.into_vec()),
@@ -56,7 +56,7 @@ impl Found {
     }
 }
 
-// The group of a statement.
+// Returns the group of a statement: one constraint, or the two halves of an equality.
 fn group_of(alloc: Global, statement: &Raw) -> Result<Group, NoMemory>
     requires { StaysBelow (2 ^ 126) statement.now }
     ensures { IfOk result (λ group. group ≡ group_of statement.now) }
@@ -72,7 +72,7 @@ fn group_of(alloc: Global, statement: &Raw) -> Result<Group, NoMemory>
     }
 }
 
-// The next of some statements, written over another one.
+// Reads the next of the unread statements over another one, whose memory is used again.
 fn read_next(
     alloc: Global,
     statements: &mut StatementsLeft<'_>,
@@ -118,7 +118,7 @@ impl<'a> Model for Groups<'a> {
 }
 
 impl<'a> Groups<'a> {
-    /// All groups of a problem.
+    /// Starts before the first group of a problem.
     pub fn of(problem: &'a Problem) -> Groups<'a>
         requires { IsWithinLimits problem.now }
         ensures { result ≡ groups_of problem.now }
@@ -133,7 +133,7 @@ impl<'a> Groups<'a> {
         }
     }
 
-    /// The next group, if there is one.
+    /// Returns the next group, if there is one.
     pub fn next(&mut self, alloc: Global) -> Result<Option<Group>, NoMemory>
         ensures some { IfOk result (λ next. IfSome next (λ group. self.old ≡ group ∷ self.new)) }
         ensures none { IfOk result (λ next. IsNone next → self.old ≡ []) }
@@ -158,7 +158,7 @@ impl<'a> Groups<'a> {
         Ok(Some(group))
     }
 
-    /// The next group, if there is one, told apart where it plainly is a clause.
+    /// Returns the next group, if there is one: as a clause if it plainly is one as it is written.
     pub fn next_found(&mut self, alloc: Global) -> Result<Option<Found>, NoMemory>
         ensures some { IfOk result (λ next. IfSome next (λ found. self.old ≡ found_group found ∷ self.new)) }
         ensures none { IfOk result (λ next. IsNone next → self.old ≡ []) }

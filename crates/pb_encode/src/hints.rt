@@ -1,4 +1,4 @@
-//! What planning the groups of a problem once tells those who plan them again.
+//! Advice from planning the groups of a problem once, for those who plan them again.
 ghost use Rattle.std.specs.Prelude.{◌≡◌, ◌∷◌, ◌+◌, ◌<◌, ◌^◌, List, IfSome, IsTrue, OnOk, drop};
 ghost use Rattle.pb_norm.specs.Constraints.{Constraint};
 ghost use Rattle.pb_base.specs.declared.options.Options.{Options};
@@ -13,16 +13,16 @@ use crate::group_plan::GroupPlan;
 use pb_choice::{EqualPlan, Kept, Plan, Treatment};
 use std::alloc::{AllocError, Global};
 
-/// What is told of a group, so that what is dear is not done again.
+/// Advice on a group from an earlier plan of it, so that nothing expensive is built twice.
 #[derive(Drop)]
 pub enum Tells {
-    /// It goes to the adder: its other family passed the budget, or was not built.
+    /// The group goes to the adder: its other family passed the budget, or was not built.
     Adder,
     /// The diagram of its constraint, which took a search.
     Diagram(Kept),
 }
 
-/// What is told of the group at a place.
+/// Advice on one group, with the group's position among all groups, from 0.
 #[derive(Drop)]
 pub struct Hint {
     pub place: usize,
@@ -32,7 +32,7 @@ pub struct Hint {
 // The most nodes of diagrams that are kept, of 32 bytes each.
 const MOST_NODES: u64 = 1 << 20;
 
-/// The hints that a walk over groups gives, and how many groups it has gone over.
+/// The advice that was noted so far on a walk over the groups, and how many groups were passed.
 #[derive(Drop)]
 pub struct Hints {
     list: Vec<Hint>,
@@ -41,7 +41,7 @@ pub struct Hints {
     room: u64,
 }
 
-// Whether a constraint goes to the adder.
+// True only if the constraint goes to the adder.
 fn is_adder(plan: &Plan<'_>) -> bool
     ensures { IsTrue result → IsSentToAdder plan.now.options plan.now.constraint.now }
 {
@@ -51,7 +51,7 @@ fn is_adder(plan: &Plan<'_>) -> bool
     }
 }
 
-// Whether both halves of an equality do, which is not encoded as one.
+// True only if the equality is encoded half by half, and both halves go to the adder.
 fn are_halves_adders(plan: &EqualPlan<'_>) -> bool
     ensures { (o : Options) (c d : Constraint) → IsEqualPlan o c d plan.now → IsTrue result → IsAdderGroup o (Paired c d) }
 {
@@ -61,7 +61,7 @@ fn are_halves_adders(plan: &EqualPlan<'_>) -> bool
     }
 }
 
-// Whether all constraints of a group do.
+// True only if all constraints of a group go to the adder.
 fn are_adders(plan: &GroupPlan<'_>) -> bool
     ensures { (o : Options) (g : Group) → IsGroupPlan o g plan.now → IsTrue result → IsAdderGroup o g }
 {
@@ -71,7 +71,7 @@ fn are_adders(plan: &GroupPlan<'_>) -> bool
     }
 }
 
-// What is told of a single constraint that does not go to the adder, given how many nodes may be kept.
+// Returns the diagram of a single constraint as advice, if it has at most `room` fresh variables.
 fn diagram_of(plan: Plan<'_>, room: u64) -> Option<Tells>
     ensures { (o : Options) (c : Constraint) → IsPlanOf o c plan.entry → IfSome result (IsToldOf o (Alone c)) }
 {
@@ -84,7 +84,7 @@ fn diagram_of(plan: Plan<'_>, room: u64) -> Option<Tells>
     }
 }
 
-// What is told of a group, given how many nodes may be kept.
+// Returns the advice to note on a group, if there is any; a diagram only if it has at most `room` fresh variables.
 fn tells_of(plan: GroupPlan<'_>, room: u64) -> Option<Tells>
     ensures { (o : Options) (g : Group) → IsGroupPlan o g plan.entry → IfSome result (IsToldOf o g) }
 {
@@ -97,7 +97,7 @@ fn tells_of(plan: GroupPlan<'_>, room: u64) -> Option<Tells>
     }
 }
 
-// How many nodes something that is told takes.
+// Returns how many nodes the advice stores: one for each fresh variable of a diagram, and none of the adder.
 fn nodes_of(tells: &Tells) -> u64 {
     match tells {
         Tells::Adder => 0,
@@ -106,7 +106,7 @@ fn nodes_of(tells: &Tells) -> u64 {
 }
 
 impl Hints {
-    /// None yet, of no group.
+    /// Makes a list without advice, before the first group.
     pub fn new(alloc: Global) -> Self
         ensures { IsBlank result }
     {
@@ -117,7 +117,7 @@ impl Hints {
         }
     }
 
-    // Adds what is told of the next group.
+    // Adds the advice on the next group, if there is any.
     fn push(&mut self, told: Option<Tells>) -> Result<(), AllocError>
         ensures stays { self.new.noted ≡ self.old.noted }
         ensures told { (o : Options) (gs rest : List Group) (g : Group) → drop self.old.noted gs ≡ g ∷ rest → IfSome told (IsToldOf o g) → OnOk result (StayHints o gs self.old self.new) }
@@ -133,7 +133,7 @@ impl Hints {
         Ok(())
     }
 
-    /// Notes what is to be told of the next group.
+    /// Notes the advice on the next group, taken from its plan.
     pub fn note(&mut self, plan: GroupPlan<'_>) -> Result<(), AllocError>
         requires few { self.old.noted < 2 ^ 63 }
         ensures next { OnOk result (self.new.noted ≡ self.old.noted + 1) }
@@ -144,7 +144,7 @@ impl Hints {
         Ok(())
     }
 
-    /// Goes over the next group, of which nothing is told.
+    /// Passes the next group, on which there is no advice.
     pub fn pass(&mut self)
         requires few { self.old.noted < 2 ^ 63 }
         ensures next { self.new.noted ≡ self.old.noted + 1 }
@@ -153,7 +153,7 @@ impl Hints {
         self.noted += 1;
     }
 
-    /// All that were noted, in order.
+    /// Returns all advice that was noted, in the order of the groups.
     pub fn as_slice(&self) -> &[Hint]
         ensures { result.now ≡ self.now.list.items }
     {
@@ -161,8 +161,8 @@ impl Hints {
     }
 }
 
-// What is told of the group at a place by the first of some hints, if it is of that place, and the hints behind it; else nothing, and
-// all of them.
+// Splits off the advice on the group at a position, if the first of the remaining hints has that position. Returns it with the hints
+// after it; else `None` with all hints.
 fn taken<'a>(hints: &'a [Hint], place: usize) -> (Option<&'a Tells>, &'a [Hint])
     ensures told { (o : Options) (gs rest : List Group) (g : Group) → drop place gs ≡ g ∷ rest → AreHintsOf o gs hints.now → IfSome result.0 (λ tells. IsToldOf o g tells.now) }
     ensures left { (o : Options) (gs : List Group) → AreHintsOf o gs hints.now → AreHintsOf o gs result.1.now }
@@ -179,7 +179,7 @@ fn taken<'a>(hints: &'a [Hint], place: usize) -> (Option<&'a Tells>, &'a [Hint])
     }
 }
 
-/// The hints of the groups that are still to come.
+/// The advice on the groups that are still to come.
 #[derive(Drop)]
 pub struct HintsLeft<'a> {
     hints: &'a [Hint],
@@ -187,7 +187,7 @@ pub struct HintsLeft<'a> {
 }
 
 impl<'a> HintsLeft<'a> {
-    /// All of some hints, before the first group.
+    /// Starts before the first group.
     pub fn of(hints: &'a [Hint]) -> Self
         ensures hints { result.hints.now ≡ hints.now }
         ensures first { result.place ≡ 0 }
@@ -195,7 +195,7 @@ impl<'a> HintsLeft<'a> {
         HintsLeft { hints, place: 0 }
     }
 
-    /// What is told of the next group, if anything is.
+    /// Returns the advice on the next group, if there is any, and passes that group.
     pub fn next(&mut self) -> Option<&'a Tells>
         requires few { self.old.place < 2 ^ 63 }
         ensures next { self.new.place ≡ self.old.place + 1 }

@@ -24,7 +24,7 @@ use pb_family::Built;
 use pb_gentot::BoundTable;
 use std::alloc::Global;
 
-// Counts the constraints of a group, and notes what is to be told of it.
+// Counts the constraints of a group, and notes the advice on it.
 fn count_group(
     alloc: Global,
     group: &Group,
@@ -44,7 +44,7 @@ fn count_group(
     Ok(())
 }
 
-// Counts the constraints of a group as it was found, and notes what is to be told of it.
+// Counts the constraints of a group as it was found, and notes the advice on it.
 fn count_found(
     alloc: Global,
     found: &Found,
@@ -68,7 +68,7 @@ fn count_found(
     }
 }
 
-// Counts all constraints of a problem, and notes what is to be told of its groups.
+// Counts all constraints of a problem, and notes the advice on its groups.
 fn tally_of(
     alloc: Global,
     problem: &Problem,
@@ -89,14 +89,14 @@ fn tally_of(
     Ok(tally)
 }
 
-// The first fresh variable of the table, if there is one.
+// Returns the first fresh variable of the table, if a table is requested.
 fn table_at(options: &Options, first: u32) -> Option<u32>
     ensures { result ≡ (if options.now.table then Some first else None) }
 {
     if options.table { Some(first) } else { None }
 }
 
-// The size of a problem's encoding, given its table. It only looks at the table: each way out of a function that owns one makes the
+// Returns the size of a problem's encoding, given its table. The table is borrowed: each way out of a function that owns one makes the
 // proof of that function longer.
 fn measure_with(
     alloc: Global,
@@ -138,8 +138,8 @@ fn measure_with(
     })
 }
 
-/// The size of a problem's encoding, and what is told of its groups: which go to the adder, since their other families passed the
-/// budget or were not built, and diagrams that were searched for, so that whoever plans them again need not build these.
+/// Returns the size of a problem's encoding, and notes advice on its groups: which go to the adder, since their other families passed the
+/// budget or were not built, and diagrams that were searched for.
 pub fn measure_telling(
     alloc: Global,
     problem: &Problem,
@@ -163,7 +163,11 @@ pub fn measure_telling(
     }
 }
 
-/// The size of a problem's encoding.
+/// Returns the size of a problem's encoding; nothing is written.
+///
+/// ```text
+/// +1 x1 +1 x2 +1 x3 <= 1 ;     vars 3, original 3, clauses 3; pairwise 1 among the treatments
+/// ```
 pub fn measure(alloc: Global, problem: &Problem, options: &Options) -> Result<Summary, MeasureFault>
     requires within { IsWithinLimits problem.now }
     // On success the answer is the problem's summary: its numbers of variables and clauses, those of its treatments, and the table's

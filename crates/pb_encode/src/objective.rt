@@ -10,7 +10,7 @@ use std::alloc::Global;
 // What the objective is asked to reach, and never does.
 const FAR: i128 = 1 << WEIGHT_BITS;
 
-// The terms of the objective, if there is one.
+// Returns the terms of the objective; none if there is no objective.
 fn objective_of(problem: &Problem) -> &[Term]
     ensures { result.now ≡ objective_terms problem.now }
 {
@@ -20,8 +20,8 @@ fn objective_of(problem: &Problem) -> &[Term]
     }
 }
 
-/// The objective of a problem in normal form, as a half that is never reached: its terms are what literals cost, and what is left of
-/// the degree is told by `offset_by`. `NoMemory` is the only fault.
+/// Returns the objective of a problem in normal form, as a half that is never reached: its terms are what literals cost, and `offset_by`
+/// reads the offset from the degree. `NoMemory` is the only fault.
 pub fn objective_form(alloc: Global, problem: &Problem) -> Result<Linear, NoMemory>
     requires { IsWithinLimits problem.now }
     // The constraint is the objective in normal form, as a half that is never reached.
@@ -30,7 +30,11 @@ pub fn objective_form(alloc: Global, problem: &Problem) -> Result<Linear, NoMemo
     written(alloc, objective_of(problem), FAR)
 }
 
-/// What the costs are added to, given the objective in normal form.
+/// Returns the offset that the costs are added to, given the objective in normal form.
+///
+/// ```text
+/// min: +3 x1 -2 x2 ;     -2: x1 costs 3, ~x2 costs 2
+/// ```
 pub fn offset_by(objective: &Linear) -> i128
     // The number is what the costs are added to: 2^100 less the degree of the objective's normal form.
     ensures { result ≡ pos (2 ^ 100) -ℤ pos objective.now.degree }
@@ -38,7 +42,7 @@ pub fn offset_by(objective: &Linear) -> i128
     FAR - objective.degree() as i128
 }
 
-/// The same, of a problem.
+/// Returns the offset that the costs of a problem's objective are added to; 0 without an objective. `NoMemory` is the only fault.
 pub fn offset_of(alloc: Global, problem: &Problem) -> Result<i128, NoMemory>
     requires { IsWithinLimits problem.now }
     ensures { IfOk result (λ offset. offset ≡ offset_of problem.now) }

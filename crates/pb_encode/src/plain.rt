@@ -18,7 +18,7 @@ pub struct PlainClause {
     ghost some: { 2 ≤ length lits },
 }
 
-// Writes the literals of terms over what a list had. False where one has a coefficient other than 1, or memory is wanting.
+// Writes the literals of terms over what a list had. False if one has a coefficient other than 1, or memory runs out.
 fn lits_of_ones(terms: &[Term], lits: &mut Vec<Lit>) -> bool
     ensures { OnTrue result (terms.now ≡ map one_of lits.new.items) }
 {
@@ -34,7 +34,7 @@ fn lits_of_ones(terms: &[Term], lits: &mut Vec<Lit>) -> bool
     true
 }
 
-// Puts literals into the order of their variables. True if each variable stands once.
+// Sorts literals by their variables. True only if each variable occurs once.
 fn put_in_order(lits: &mut Vec<Lit>) -> bool
     ensures order { IsPermutation lits.old.items lits.new.items }
     ensures once { IsTrue result → IsAscending (weights (map one_of lits.new.items)) }
@@ -43,7 +43,7 @@ fn put_in_order(lits: &mut Vec<Lit>) -> bool
     lits.is_sorted_by(|lit, next| lit.var < next.var)
 }
 
-/// Whether a statement plainly is a clause. Then its literals are written over what the list had.
+/// True only if the statement is a clause as it is written. Then its literals are written over what the list had.
 pub fn is_plain(statement: &Raw, lits: &mut Vec<Lit>) -> bool
     ensures { OnTrue result (IsPlain statement.now lits.new.items) }
 {

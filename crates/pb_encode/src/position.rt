@@ -1,4 +1,4 @@
-//! Where the derivation of a group stands.
+//! The position of a group's derivation.
 ghost use Rattle.std.specs.Prelude.{◌≤◌};
 
 /// The first fresh variable of a group's derivation, and the id of its first constraint.

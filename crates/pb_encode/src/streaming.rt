@@ -15,7 +15,7 @@ use pb_base::{Lit, Options};
 use pb_family::{ClauseSink, SinkResult};
 use std::alloc::Global;
 
-// Hands over the clauses of a group, and gives the first number after its fresh variables.
+// Emits the clauses of a group, and returns the first number after its fresh variables.
 fn stream_group<S: ClauseSink>(
     alloc: Global,
     group: &Group,
@@ -35,7 +35,7 @@ fn stream_group<S: ClauseSink>(
     plan.emit(alloc, first, sink)
 }
 
-// Hands over one clause, and gives the number again.
+// Emits one clause, which has no fresh variables, and returns the number that it was given.
 fn stream_clause<S: ClauseSink>(clause: &[Lit], first: u32, sink: &mut S) -> SinkResult<u32>
     ensures next { IfOk result (λ next. next ≡ first) }
     ensures hands { HandsIfMemory (clause.now ∷ []) result (S.state sink.old) (S.state sink.new) }
@@ -44,7 +44,7 @@ fn stream_clause<S: ClauseSink>(clause: &[Lit], first: u32, sink: &mut S) -> Sin
     Ok(first)
 }
 
-// Hands over the clauses of a group as it was found, and gives the first number after its fresh variables.
+// Emits the clauses of a group as it was found, and returns the first number after its fresh variables.
 fn stream_found<S: ClauseSink>(
     alloc: Global,
     found: &Found,
@@ -66,8 +66,8 @@ fn stream_found<S: ClauseSink>(
     }
 }
 
-/// Hands over the clauses of all constraints, of which nothing is kept but what one statement needs, and gives the first number after
-/// their fresh variables.
+/// Emits the clauses of all constraints, of which nothing is kept but what one statement needs, and returns the first number after their
+/// fresh variables.
 pub fn stream_loaded<S: ClauseSink>(
     alloc: Global,
     input: &Encodable<'_>,

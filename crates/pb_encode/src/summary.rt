@@ -5,7 +5,7 @@ ghost use Rattle.pb_encode.specs.Summaries.{count_of_some, counts_line, simple_c
 use itoa::Buffer;
 use std::alloc::{AllocError, Global};
 
-/// How many constraints are encoded in each way, where one that leaves nothing but units counts as nothing.
+/// The numbers of constraints that are encoded in each way; one that leaves nothing but units counts as `nothing`.
 #[derive(Clone, Copy)]
 pub struct Treatments {
     pub nothing: u64,
@@ -30,7 +30,7 @@ pub struct Summary {
     pub vars: u32,
     /// The variables of the problem.
     pub original: u32,
-    /// Those of its products.
+    /// The variables of products of literals, one for each product.
     pub products: u32,
     pub clauses: u64,
     pub treatments: Treatments,
@@ -84,7 +84,7 @@ fn push_simple(out: &mut Vec<u8>, treatments: &Treatments) -> Result<(), AllocEr
     push_count(out, b" product ", treatments.product)
 }
 
-// Appends those of other sums.
+// Appends the counts of the families for sums of several literals.
 fn push_sums(out: &mut Vec<u8>, treatments: &Treatments) -> Result<(), AllocError>
     ensures { OnOk result (out.new.items ≡ out.old.items ++ sum_counts treatments.now) }
 {
@@ -106,7 +106,12 @@ fn push_treatments(out: &mut Vec<u8>, treatments: &Treatments) -> Result<(), All
     Ok(())
 }
 
-/// The two lines that are said of an encoding.
+/// Returns the two lines that the program prints about an encoding.
+///
+/// ```text
+/// variables 3 original 3 fresh 0 clauses 3
+/// nothing 0 empty 0 clause 0 pairwise 1 ladder 0 product 0 counter 0 totalizer 0 diagram 0 tree 0 adder 0
+/// ```
 pub fn summary_text(alloc: Global, summary: &Summary) -> Result<Vec<u8>, AllocError>
     requires { summary.now.original + summary.now.products ≤ summary.now.vars }
     // The text is the two lines of a summary, the number of products at the end of the first if there is one, and of halves encoded as

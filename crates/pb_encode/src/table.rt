@@ -20,7 +20,7 @@ use pb_gentot::BoundTable;
 use pb_norm::by_weight;
 use std::alloc::Global;
 
-// What the objective costs, the greatest first.
+// Returns the terms that the objective costs, the greatest coefficient first.
 fn costs_of(alloc: Global, problem: &Problem) -> Result<Terms, NoMemory>
     requires { IsWithinLimits problem.now }
     ensures { IfOk result (λ terms. weights terms ≡ by_weight (objective_form problem.now).terms) }
@@ -29,7 +29,7 @@ fn costs_of(alloc: Global, problem: &Problem) -> Result<Terms, NoMemory>
     Ok(by_weight(form))
 }
 
-// The terms of the table: none where none is asked for.
+// Returns the terms that the table is over: those of the objective if a table is requested, and else none.
 fn table_terms(alloc: Global, problem: &Problem, options: &Options) -> Result<Terms, NoMemory>
     requires { IsWithinLimits problem.now }
     ensures { IfOk result (λ terms. weights terms ≡ table_terms options.now problem.now) }
@@ -41,8 +41,8 @@ fn table_terms(alloc: Global, problem: &Problem, options: &Options) -> Result<Te
     }
 }
 
-/// The table of bounds on a problem's objective, if it has no more fresh variables than the budget; one without rows where no table
-/// is asked for. `NoMemory` is the only fault.
+/// Builds the table of bounds on a problem's objective, if it has no more fresh variables than the budget; a table without rows if none
+/// is requested. `NoMemory` is the only fault.
 pub fn table_of(
     alloc: Global,
     problem: &Problem,
@@ -56,7 +56,7 @@ pub fn table_of(
     BoundTable::build(alloc, &terms, options.budget)
 }
 
-/// The table, where it has no more fresh variables than the budget.
+/// Builds the table, whose fresh variables are known not to pass the budget.
 pub fn table_within(
     alloc: Global,
     problem: &Problem,
@@ -73,7 +73,7 @@ pub fn table_within(
     }
 }
 
-/// Hands over the clauses of the table.
+/// Emits the clauses of the table.
 pub fn stream_table<S: ClauseSink>(
     alloc: Global,
     input: &Encodable<'_>,
@@ -87,7 +87,7 @@ pub fn stream_table<S: ClauseSink>(
     table.emit(alloc, first, sink)
 }
 
-/// Hands over the derivation of the table.
+/// Emits the derivation of the table.
 pub fn derive_table<T: StepSink>(
     alloc: Global,
     input: &Encodable<'_>,

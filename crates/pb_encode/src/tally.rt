@@ -15,8 +15,8 @@ use crate::group_plan::GroupPlan;
 use crate::summary::Treatments;
 use pb_choice::{EqualPlan, Plan, Treatment};
 
-/// How many fresh variables and clauses there are, and how many constraints of each treatment, in the order of the
-/// summary, with those of equalities that are encoded as one behind them. A count stands still at the end of its type.
+/// The numbers of fresh variables, of clauses, and of constraints by treatment. Treatments come in the order of the summary, the
+/// equalities that are encoded as one last. A count stops at the greatest value of its type.
 #[derive(Drop)]
 pub struct Tally {
     pub fresh: u64,
@@ -24,7 +24,7 @@ pub struct Tally {
     pub treated: [u64; 12],
 }
 
-// The place of a treatment in the summary, which has them in the order of the type.
+// Returns the position of a treatment in the summary, from 0 to 11.
 fn place_of(treatment: Treatment) -> usize
     ensures place { result ≡ place_of treatment }
     ensures within { result < 12 }
@@ -35,7 +35,7 @@ fn place_of(treatment: Treatment) -> usize
 impl Tally {
     ghost use Rattle.pb_encode.specs.inner.Tallies.{AddsJoint, Counts, IsTally};
 
-    /// Of no constraint.
+    /// Makes the tally of no constraint.
     pub fn new() -> Self
         ensures { (o : Options) → IsTally o [] result }
     {
@@ -101,7 +101,7 @@ impl Tally {
         }
     }
 
-    // How many constraints have the treatment of a place.
+    // Returns the number of constraints with the treatment at a position of the summary.
     fn treated_at(&self, place: usize) -> u64
         requires { place < 12 }
         ensures { (o : Options) (gs : List Group) → size_total gs < 2 ^ 64 → IsTally o gs self.now → result ≡ treated o place gs }
@@ -109,7 +109,7 @@ impl Tally {
         self.treated[place]
     }
 
-    /// The counts of the treatments, as they are said.
+    /// Returns the counts of the treatments, as the summary has them.
     pub fn treatments(&self) -> Treatments
         ensures { (o : Options) (gs : List Group) → size_total gs < 2 ^ 64 → IsTally o gs self.now → result ≡ treatments_of o gs }
     {

@@ -31,7 +31,7 @@ use pb_family::{ClauseSink, SinkResult};
 use pb_norm::Linear;
 use std::alloc::Global;
 
-// Hands over the line of the offset.
+// Emits the line of the offset.
 fn send_offset<'a, D: Desk>(
     objective: &Linear,
     writer: &mut HardWriter<'a, D>,
@@ -41,7 +41,7 @@ fn send_offset<'a, D: Desk>(
     writer.offset(offset_by(objective))
 }
 
-// Hands over the soft lines: for each term of the objective that its literal is to be false.
+// Emits the soft lines: for each term of the objective that its literal is to be false.
 fn send_softs<'a, D: Desk>(objective: &Linear, writer: &mut HardWriter<'a, D>) -> Result<(), Failed>
     ensures { let seen = ⟦<HardWriter<'a, D> as ClauseSink>⟧.state in HandsText (softs_text (map opposite objective.now.terms)) result (seen writer.old) (seen writer.new) }
 {
@@ -60,7 +60,7 @@ struct Costed<'a> {
     ghost objective_is: { objective ≡ objective_form input.problem.now },
 }
 
-// Hands over all lines.
+// Emits the offset, the hard clauses and the soft lines.
 fn hand_weighted<'a, D: Desk>(
     alloc: Global,
     of: &Costed<'_>,
@@ -79,6 +79,7 @@ impl FileText for Costed<'_> {
 
     ghost text = { λ c. weighted_text c.input.options.now c.input.problem.now };
 
+    // Emits the weighted CNF text to the slot.
     fn send<D: Desk>(&self, alloc: Global, desk: &mut D, slot: u8) -> SinkResult {
         let mut outbox = WriteBuffer::new(alloc)?;
         let handed = {
@@ -90,8 +91,13 @@ impl FileText for Costed<'_> {
 }
 
 /// Writes the weighted CNF of a problem to a new file in slot 0: the offset of its objective, its clauses as hard ones, and a soft line
-/// for each literal that costs. The size is taken before the file is made, so that a problem which is not encoded makes none. The
-/// summary counts hard clauses alone.
+/// for each literal that costs. The size is taken before the file is made, so that a problem which is not encoded makes none. The summary
+/// counts hard clauses alone.
+///
+/// ```text
+/// min: +3 x1 -2 x2 ; +1 x1 +1 x2 >= 1 ;       the problem
+/// c offset -2\nh 1 2 0\n3 -1 0\n2 2 0\n       the file
+/// ```
 pub fn weighted<D: Desk>(
     alloc: Global,
     problem: &Problem,

@@ -24,8 +24,8 @@ use pb_family::{ClauseSink, SinkResult, StepSink, derive_steps};
 use pb_steps::Step;
 use std::alloc::Global;
 
-/// Hands over the clauses of a problem: those of its constraints, of which nothing is kept but what one statement needs, and then
-/// those of its table.
+/// Emits the clauses of a problem: those of its constraints, of which nothing is kept but what one statement needs, and then those of its
+/// table.
 pub fn hand_told_clauses<S: ClauseSink>(
     alloc: Global,
     input: &Encodable<'_>,
@@ -37,7 +37,7 @@ pub fn hand_told_clauses<S: ClauseSink>(
     stream_table(alloc, input, first, sink)
 }
 
-/// The same where nothing is known of the groups.
+/// Emits the clauses of a problem on which there is no advice.
 pub fn hand_clauses<S: ClauseSink>(
     alloc: Global,
     problem: &Problem,
@@ -57,7 +57,7 @@ pub fn hand_clauses<S: ClauseSink>(
     hand_told_clauses(alloc, &input, sink)
 }
 
-// How many fresh variables and clauses the encoding of a problem has that passes no limit, and which groups go to the adder.
+// Returns the numbers of fresh variables and clauses of a problem that passes no limit, and notes which groups go to the adder.
 fn counts_of(
     alloc: Global,
     problem: &Problem,
@@ -80,8 +80,8 @@ fn counts_of(
     }
 }
 
-/// Hands over the clauses of a problem, as `encode` writes them, and gives how many fresh variables and clauses there are, which
-/// are counted first.
+/// Emits the clauses of a problem, as `encode` writes them, and returns the numbers of fresh variables and clauses, which are counted
+/// first.
 pub fn stream_clauses<S: ClauseSink>(
     alloc: Global,
     problem: &Problem,
@@ -106,7 +106,7 @@ pub fn stream_clauses<S: ClauseSink>(
     Ok(counts)
 }
 
-// Hands over the derivations of all constraints, and then that of the table.
+// Emits the derivations of all constraints, and then that of the table.
 fn derive_clauses<T: StepSink>(alloc: Global, input: &Encodable<'_>, sink: &mut T) -> SinkResult
     requires next { (T.state sink.old).next ≡ length (loaded_of input.now.problem.now) + 1 }
     ensures { HandsFrom (steps_at_next input.now.options.now input.now.problem.now) result (T.state sink.old) (T.state sink.new) }
@@ -115,7 +115,7 @@ fn derive_clauses<T: StepSink>(alloc: Global, input: &Encodable<'_>, sink: &mut 
     derive_table(alloc, input, next.first, sink)
 }
 
-/// Hands over the derivation of a problem's clauses, whole.
+/// Emits the whole derivation of a problem's clauses.
 pub fn stream_told_steps<T: StepSink>(
     alloc: Global,
     input: &Encodable<'_>,
@@ -130,7 +130,7 @@ pub fn stream_told_steps<T: StepSink>(
     sink.step(&Step::End)
 }
 
-/// The same where nothing is known of the groups.
+/// Emits the whole derivation of the clauses of a problem on which there is no advice.
 pub fn stream_steps<T: StepSink>(
     alloc: Global,
     problem: &Problem,
