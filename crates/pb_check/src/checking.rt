@@ -104,7 +104,7 @@ fn check_over<D: Desk>(
     answer
 }
 
-// Checks both texts, of which nothing was read yet. Beside the verdict stands how many variables the CNF has.
+// Checks both texts, of which nothing was read yet. With the verdict comes the number of variables of the CNF.
 fn check_texts<D: Desk>(
     alloc: Global,
     problem: &Problem,
@@ -146,7 +146,8 @@ fn check_texts<D: Desk>(
     }
 }
 
-// Checks a derivation, and keeps the clauses of the CNF if they are wanted. Beside the verdict stand how many variables the CNF has, and what was kept.
+// Checks a derivation, and collects the clauses of the CNF if they are wanted. With the verdict come the number of variables of the CNF
+// and the collected clauses.
 fn check_by<D: Desk>(
     alloc: Global,
     problem: &Problem,
@@ -192,8 +193,15 @@ fn check_by<D: Desk>(
     }
 }
 
-/// Checks a derivation for a problem and a CNF, which two open slots have, each from its first byte on. Of both texts nothing is kept but a line, a clause and
-/// the constraints that stand. The first fault, denied step or end in the order of reading is the answer.
+/// Checks a derivation for a problem and a CNF, which two open slots have, each from its first byte on. Of both texts nothing is kept but
+/// a line, a clause and the live constraints. The first fault, denied step or end in the order of reading is the answer.
+///
+/// ```text
+/// +1 x1 +1 x2 >= 1 ;                        the problem
+/// rup +1 x1 +1 x2 >= 1 ; 1\nout 2\nend\n     the derivation, after its first two lines
+/// p cnf 2 1\n1 2 0\n                        this CNF: Accepted
+/// p cnf 2 1\n1 0\n                          this CNF: Rejected { line: 4, denied: NotImplied { id: 2 } }
+/// ```
 pub fn check<D: Desk>(
     alloc: Global,
     problem: &Problem,
@@ -227,7 +235,8 @@ pub fn check<D: Desk>(
     Ok(verdict)
 }
 
-/// Checks as `check` does. Beside the verdict stands how many variables the CNF has, and, where the derivation is accepted, all clauses of the CNF, in order.
+/// Checks a derivation as `check` does. With the verdict come the number of variables of the CNF and, if the derivation is accepted, all
+/// clauses of the CNF in order; else none.
 pub fn check_kept<D: Desk>(
     alloc: Global,
     problem: &Problem,

@@ -11,7 +11,7 @@ use pb_desk::{LineFault, LineReader};
 use pb_dimacs::{CnfFault, CnfHead, limit_place};
 use pb_steps::StepFault;
 
-/// The fault of a CNF text.
+/// Returns the fault of checking that a fault of the CNF text is.
 pub fn of_cnf(fault: CnfFault) -> CheckFault
     ensures value { result ≡ of_cnf fault }
     ensures named { NamesText result }
@@ -32,7 +32,7 @@ pub fn of_cnf(fault: CnfFault) -> CheckFault
     }
 }
 
-/// The fault of the line of a number.
+/// Returns the fault of checking that a fault of a derivation's line is; lines count from 1.
 pub fn of_step(number: u64, fault: StepFault) -> CheckFault
     ensures value { result ≡ of_step number fault }
     ensures named { NamesText result }
@@ -58,7 +58,7 @@ pub fn of_step(number: u64, fault: StepFault) -> CheckFault
     }
 }
 
-/// The fault of a CNF with fewer variables than the constraints.
+/// Returns the fault of a CNF with fewer variables than the problem, at the number in its p line.
 pub fn too_few_vars(head: &CnfHead) -> CheckFault
     ensures { result ≡ CheckFault.Refused File.Cnf head.now.place Expected.VarCount }
 {
@@ -69,7 +69,7 @@ pub fn too_few_vars(head: &CnfHead) -> CheckFault
     }
 }
 
-/// The fault of a derivation one of whose lines was not read.
+/// Returns the fault of a derivation one of whose lines was not read.
 pub fn of_line(fault: LineFault) -> CheckFault
     ensures value { result ≡ of_line fault }
     ensures named { NamesText result }
@@ -85,7 +85,7 @@ pub fn of_line(fault: LineFault) -> CheckFault
     }
 }
 
-// The column of the first word of a line.
+// Returns the column, from 1, of the first word of a line; 1 if there is none.
 fn first_column(line: &[u8]) -> u64
     ensures { result ≡ first_column (words_of line.now) }
 {
@@ -95,7 +95,7 @@ fn first_column(line: &[u8]) -> u64
     }
 }
 
-// The column of the second word of a line.
+// Returns the column, from 1, of the second word of a line; 1 if there is none.
 fn second_column(line: &[u8]) -> u64
     ensures { result ≡ second_column (words_of line.now) }
 {
@@ -109,7 +109,7 @@ fn second_column(line: &[u8]) -> u64
     }
 }
 
-/// The last line does not stand in its place.
+/// Returns the fault that the last line that was read is not one that may come there.
 pub fn misplaced(lines: &LineReader, expected: Expected) -> CheckFault
     ensures { result ≡ misplaced_line lines.now.number lines.now.line expected }
 {
@@ -123,7 +123,7 @@ pub fn misplaced(lines: &LineReader, expected: Expected) -> CheckFault
     }
 }
 
-/// The last line tells a wrong number of constraints.
+/// Returns the fault that the last line that was read states a wrong number of constraints.
 pub fn miscounted(lines: &LineReader) -> CheckFault
     ensures { result ≡ miscounted_line lines.now.number lines.now.line }
 {
@@ -137,7 +137,7 @@ pub fn miscounted(lines: &LineReader) -> CheckFault
     }
 }
 
-/// The text ends before its last line.
+/// Returns the fault that the derivation ends before its last line.
 pub fn end_fault(lines: &LineReader) -> CheckFault
     requires { lines.now.number < 2 ^ 63 }
     ensures { result ≡ CheckFault.Refused File.Proof (line_start (lines.now.number + 1)) Expected.StepWord }

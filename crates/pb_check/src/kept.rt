@@ -13,7 +13,7 @@ pub struct CollectedClauses {
 }
 
 impl CollectedClauses {
-    /// Nothing is to be kept.
+    /// Starts without collecting anything.
     pub fn nothing(alloc: Global) -> CollectedClauses
         ensures { result ≡ record { wanted = false; clauses = [] } }
     {
@@ -23,7 +23,7 @@ impl CollectedClauses {
         }
     }
 
-    /// All is to be kept, and nothing was read yet.
+    /// Starts to collect all clauses, before the first.
     pub fn all(alloc: Global) -> CollectedClauses
         ensures { result ≡ record { wanted = true; clauses = [] } }
     {

@@ -15,7 +15,7 @@ use pb_desk::{Desk, LineReader};
 use pb_steps::{Step, read_step};
 use std::alloc::Global;
 
-// Whether a line is empty or a comment.
+// True if the line is blank or a comment.
 fn says_nothing(step: &Step) -> bool
     ensures { result ≡ says_nothing step.now }
 {
@@ -25,7 +25,7 @@ fn says_nothing(step: &Step) -> bool
     }
 }
 
-/// Takes the next line that says something, as a step. None at the end of the text.
+/// Reads the next line that is neither blank nor a comment, as a step; `None` at the end of the text.
 pub fn next_step<D: Desk>(
     alloc: Global,
     desk: &mut D,
@@ -65,7 +65,7 @@ pub fn next_step<D: Desk>(
     }
 }
 
-/// Takes the next line that says something, as a step, where the derivation may not end yet.
+/// Reads the next line that is neither blank nor a comment, as a step; the end of the text is a fault.
 pub fn due_step<D: Desk>(
     alloc: Global,
     desk: &mut D,

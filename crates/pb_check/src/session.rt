@@ -16,7 +16,7 @@ pub struct Session {
 }
 
 impl Session {
-    /// The clauses that were kept.
+    /// Returns the clauses that were collected.
     pub fn into_clauses(self) -> Clauses
         ensures { result ≡ self.kept.clauses }
     {

@@ -25,7 +25,7 @@ use pb_desk::{Desk, LineReader};
 use pb_steps::Step;
 use std::alloc::Global;
 
-/// Takes the head line.
+/// Reads the head line, and refuses any other.
 pub fn take_head<D: Desk>(
     alloc: Global,
     desk: &mut D,
@@ -52,7 +52,7 @@ pub fn take_head<D: Desk>(
     }
 }
 
-/// Takes the line that tells the number of loaded constraints.
+/// Reads the line that states the number of loaded constraints, and refuses another number.
 pub fn take_count<D: Desk>(
     alloc: Global,
     desk: &mut D,
@@ -86,7 +86,7 @@ pub fn take_count<D: Desk>(
     }
 }
 
-// Takes the next line that says something, as a line among the steps.
+// Reads the next line that is neither blank nor a comment, as a line among the steps.
 fn take_line<D: Desk>(
     alloc: Global,
     desk: &mut D,
@@ -124,7 +124,7 @@ fn take_line<D: Desk>(
     )
 }
 
-/// Takes steps up to the line that ends them, or to the first that is not allowed, which gives a verdict.
+/// Applies steps up to the line that ends them, or to the first that is not allowed, which gives a verdict.
 pub fn run_steps<D: Desk>(
     alloc: Global,
     desk: &mut D,
@@ -159,7 +159,7 @@ pub fn run_steps<D: Desk>(
     }
 }
 
-/// Goes on to the end of the text, where no line may say anything.
+/// Reads on to the end of the text, where only blank lines and comments may come.
 pub fn take_rest<D: Desk>(
     alloc: Global,
     desk: &mut D,

@@ -19,18 +19,18 @@ use pb_dimacs::ClauseReader;
 use pb_rules::{RuleFault, apply};
 use pb_steps::{Denied, Step};
 
-/// What a line among the steps gives.
+/// The effect of a line among the steps.
 #[derive(Clone, Copy)]
 pub enum Taken {
     /// The steps go on.
     On,
-    /// They end.
+    /// The steps end.
     Last,
     /// The step is not allowed.
     Denied(Denied),
 }
 
-// Takes a step of a rule, if it is allowed.
+// Applies a step of a rule, if it is allowed.
 fn judge(db: &mut Database, step: &Step, next: Option<&Clause>) -> Result<Taken, NoMemory>
     requires rule { IsRule step.now }
     requires spelled { IsSpelled step.now }
@@ -80,7 +80,7 @@ fn put_out<D: Desk>(
     }
 }
 
-// No clause may be left.
+// Ends the steps, if the CNF has no clause left.
 fn end_steps<D: Desk>(desk: &mut D, cnf: &mut ClauseReader) -> Result<Taken, CheckFault>
     requires open { IsTrue ((D.state desk.old).view.reading cnf.old.lines.slot) }
     requires knows { Knows cnf.old.lines.slot cnf.old.lines.ahead (D.state desk.old) }
@@ -101,7 +101,7 @@ fn end_steps<D: Desk>(desk: &mut D, cnf: &mut ClauseReader) -> Result<Taken, Che
     }
 }
 
-/// Takes what the last line of the derivation says, as a line among the steps.
+/// Applies what the last line of the derivation says, as a line among the steps.
 pub fn take_step<D: Desk>(
     desk: &mut D,
     cnf: &mut ClauseReader,
