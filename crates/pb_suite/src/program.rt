@@ -13,7 +13,7 @@ use std::process::ExitCode;
 use std::rt::Env;
 use std::{env, io};
 
-// A run with the words that the system gives.
+// Runs the program with the words that the system gives.
 fn run_given<R: Env + AllocGlobal, D: Desk>(rt: &R, desk: &mut D) -> Outcome
     requires closed { IsClosed (D.state desk.old) }
     ensures answers { AnswersSome (D.state desk.old) (D.state desk.new) result }
@@ -33,19 +33,19 @@ fn run_given<R: Env + AllocGlobal, D: Desk>(rt: &R, desk: &mut D) -> Outcome
     run(alloc, &words, desk)
 }
 
-/// A run of the program over a desk, with the words that the system gives.
+/// Runs the program over a desk, with the words that the system gives.
 pub fn run_program<R: Env + AllocGlobal, D: Desk, E: Diagnostics>(
     rt: &R,
     desk: &mut D,
     diagnostics: &mut E,
 ) -> ExitCode
     requires closed { IsClosed (D.state desk.old) }
-    // The exit status and the line that is told are those of what some words ask for, done as it is specified; or of words that ask
-    // for nothing or were not to be had, and then the desk is left alone.
+    // The exit status and the line that is reported are those of what some words request, done as it is specified; or of words that
+    // request nothing or were not to be had, and then the desk is left alone.
     ensures exits { Exits (D.state desk.old) (D.state desk.new) (E.told diagnostics.old) (E.told diagnostics.new) (exit_status result) }
     // The desk is as steady as it was; and it has kept to what it tells from the start, if it does at the end.
     ensures stays { Stays (D.state desk.old) (D.state desk.new) }
-    // Where it is 0, all that was made is closed.
+    // If the exit status is 0, all files that were made are closed.
     ensures ended { exit_status result ≡ 0 → (slot : ℕ) → (D.state desk.new).view.writing slot ≡ false }
 {
     let outcome = run_given(rt, desk);

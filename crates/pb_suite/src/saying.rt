@@ -5,7 +5,7 @@ use crate::outcome::Outcome;
 use pb_base::Failed;
 use pb_desk::{Desk, say_all};
 
-/// Says all the bytes, which ends a run.
+/// Prints all the bytes, which ends a run.
 pub fn say<D: Desk>(desk: &mut D, bytes: &[u8]) -> Outcome
     ensures { EndsSaying bytes.now (D.state desk.old) (D.state desk.new) result }
 {

@@ -20,7 +20,7 @@ use pb_opb::{OpbFault, read_opb};
 use pb_words::BenchArgs;
 use std::alloc::Global;
 
-// The problem that a generated text says.
+// Reads a generated text as a problem.
 fn generated_problem(alloc: Global, count: u32, seed: u32) -> Result<Problem, NoMemory>
     requires { count ≤ 2 ^ 24 }
     ensures reads { IfOk result (Reads (generated count seed)) }
@@ -83,7 +83,7 @@ fn say_size<D: Desk>(
     }
 }
 
-/// Encodes a generated problem with the default options: says its size, and makes its CNF file where that is named.
+/// Encodes a generated problem with the default options: prints its size, and makes its CNF file if that is named.
 pub fn bench_file<D: Desk>(alloc: Global, asked: &BenchArgs<'_>, desk: &mut D) -> Outcome
     requires closed { IsClosed (D.state desk.old) }
     requires fit { IsFitBench (as_bench_words asked.now) }

@@ -17,7 +17,7 @@ use pb_desk::Desk;
 use pb_words::CheckArgs;
 use std::alloc::Global;
 
-/// The outcome of a fault of checking.
+/// Returns the outcome that reports a fault of checking.
 pub fn check_refusal(fault: CheckFault) -> Outcome
     ensures { result ≡ check_refusal fault }
 {
@@ -33,8 +33,14 @@ pub fn check_refusal(fault: CheckFault) -> Outcome
     }
 }
 
-/// Says whether a derivation shows that each solution of a problem extends to a model of a CNF. The problem is read whole
-/// first, and of the other two nothing is kept but a line, a clause and the constraints that stand.
+/// Checks whether a derivation shows that each solution of a problem extends to a model of a CNF, and prints `accepted` if it does. The
+/// problem is read whole first, and of the other two nothing is kept but a line, a clause and the live constraints.
+///
+/// ```text
+/// +1 x1 +1 x2 >= 1 ;      the problem; the derivation is that of `encode`
+/// p cnf 2 1\n1 2 0\n      with this CNF: `accepted`
+/// p cnf 2 1\n1 0\n        with this one: `Rejected`, at line 4 of the derivation: not implied by 2
+/// ```
 pub fn check_file<D: Desk>(alloc: Global, asked: &CheckArgs<'_>, desk: &mut D) -> Outcome
     requires closed { IsClosed (D.state desk.old) }
     ensures implements { let new = D.state desk.new in Implements (check_spec (as_check_words asked.now)) (seen_from new (D.state desk.old)) (seen_from new new) result }

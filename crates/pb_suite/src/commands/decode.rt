@@ -22,7 +22,7 @@ use pb_model::{Decoded, Model, ModelFault, decode, read_model, write_solution};
 use pb_words::DecodeArgs;
 use std::alloc::Global;
 
-/// The outcome of a text's fault.
+/// Returns the outcome that reports a fault of a model text.
 pub fn model_refusal(fault: ModelFault) -> Outcome
     ensures { result ≡ model_refusal fault }
 {
@@ -62,7 +62,7 @@ pub fn read_answer<D: Desk>(
     }
 }
 
-// Says the solution that a model gives.
+// Prints the solution that a model gives.
 fn say_solution<D: Desk>(
     alloc: Global,
     problem: &Problem,
@@ -84,7 +84,7 @@ fn say_solution<D: Desk>(
     }
 }
 
-// Says the solution that a model gives, or tells why it gives none.
+// Prints the solution that a model gives, or answers why it gives none.
 fn say_decoded<D: Desk>(
     alloc: Global,
     problem: &Problem,
@@ -105,7 +105,13 @@ fn say_decoded<D: Desk>(
     }
 }
 
-/// Says the solution of a problem that a solver's model gives. The values are tested against each statement.
+/// Prints the solution of a problem that a solver's model gives. The values are tested against each statement.
+///
+/// ```text
+/// +1 x1 +1 x2 +1 x3 = 1 ;                   the problem
+/// s SATISFIABLE\nv 1 -2 -3 0\n              the model
+/// s SATISFIABLE\nv x1 -x2 -x3\n             is printed; after `s UNSATISFIABLE` the answer is `NoModel`
+/// ```
 pub fn decode_file<D: Desk>(alloc: Global, asked: &DecodeArgs<'_>, desk: &mut D) -> Outcome
     requires closed { IsClosed (D.state desk.old) }
     ensures implements { let new = D.state desk.new in Implements (decode_spec (as_decode_words asked.now)) (seen_from new (D.state desk.old)) (seen_from new new) result }

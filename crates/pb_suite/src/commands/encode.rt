@@ -14,7 +14,7 @@ use pb_encode::Names;
 use pb_words::EncodeArgs;
 use std::alloc::Global;
 
-/// Makes the CNF file of a problem, and the file of the derivation if that is named, and says the size of the encoding.
+/// Makes the CNF file of a problem, and the file of the derivation if that is named, and prints the size of the encoding.
 pub fn encode_file<D: Desk>(alloc: Global, asked: &EncodeArgs<'_>, desk: &mut D) -> Outcome
     requires closed { IsClosed (D.state desk.old) }
     requires fit { IsFitEncode (as_encode_words asked.now) }

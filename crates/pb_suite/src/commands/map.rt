@@ -14,7 +14,11 @@ use pb_model::write_map;
 use pb_words::MapArgs;
 use std::alloc::Global;
 
-/// Says which variables of a problem have free names, and which names.
+/// Prints the number and the name of each variable that has a free name.
+///
+/// ```text
+/// +1 rain +1 sun >= 1 ;     the problem; printed: 1 rain\n2 sun\n
+/// ```
 pub fn map_file<D: Desk>(alloc: Global, asked: &MapArgs<'_>, desk: &mut D) -> Outcome
     requires closed { IsClosed (D.state desk.old) }
     ensures implements { let new = D.state desk.new in Implements (map_spec (as_map_words asked.now)) (seen_from new (D.state desk.old)) (seen_from new new) result }

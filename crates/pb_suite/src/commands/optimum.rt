@@ -24,7 +24,7 @@ use pb_opb::{BoundFault, bounded};
 use pb_words::OptimumArgs;
 use std::alloc::Global;
 
-// The problem with the bound that is one below the value of a solution.
+// Returns the problem with the bound that is one below the value of a solution.
 fn bounded_below(alloc: Global, problem: Problem, model: &Model) -> Result<Problem, BoundFault>
     requires within { IsWithinLimits problem }
     requires few { length problem.statements ≤ 2 ^ 24 }
@@ -38,7 +38,7 @@ fn bounded_below(alloc: Global, problem: Problem, model: &Model) -> Result<Probl
     bounded(alloc, problem, below)
 }
 
-// Has the texts refute that a solution is worth less than that of a model, and says it.
+// Prints the solution of a model as an optimum, if the texts refute that any is worth less.
 fn prove_least<D: Desk>(
     alloc: Global,
     problem: Problem,
@@ -69,7 +69,7 @@ fn prove_least<D: Desk>(
     }
 }
 
-// Says the values of a model where they are a solution and none is worth less, or tells why not.
+// Prints the solution that a model gives, if it is one and none is worth less, or answers why not.
 fn prove_decoded<D: Desk>(
     alloc: Global,
     problem: Problem,
@@ -92,8 +92,8 @@ fn prove_decoded<D: Desk>(
     }
 }
 
-/// Says the solution of a problem that a solver's model gives, where none is worth less. Its values are tested against each
-/// statement, and the other texts have to refute the problem with the bound one below its value.
+/// Prints the solution of a problem that a solver's model gives, if none is worth less. The values are tested against each statement, and
+/// the other texts have to refute the problem with the bound one below the solution's value.
 pub fn optimum_file<D: Desk>(alloc: Global, asked: &OptimumArgs<'_>, desk: &mut D) -> Outcome
     requires closed { IsClosed (D.state desk.old) }
     ensures implements { let new = D.state desk.new in Implements (optimum_spec (as_optimum_words asked.now)) (seen_from new (D.state desk.old)) (seen_from new new) result }

@@ -17,7 +17,7 @@ use pb_unit::{Constraints, reached_literals};
 use pb_words::ProbeArgs;
 use std::alloc::Global;
 
-// What is said of literals that are given beside clauses.
+// Returns the line that `probe` prints: what unit propagation over the clauses reaches from the literals, or that there is a conflict.
 fn line_of(alloc: Global, forms: Constraints, lits: &Lits) -> Result<Vec<u8>, NoMemory>
     ensures { OfClauses forms (λ clauses. IfOk result (λ line. SaysOfLits clauses lits.now line.items)) }
 {
@@ -27,7 +27,13 @@ fn line_of(alloc: Global, forms: Constraints, lits: &Lits) -> Result<Vec<u8>, No
     }
 }
 
-/// Says what the literals reach over the clauses of a file.
+/// Prints what unit propagation over the clauses of a file reaches from the literals.
+///
+/// ```text
+/// p cnf 3 2\n-1 2 0\n-2 3 0\n     the CNF
+/// x1                              printed: fixed 1 2 3 0
+/// x1 ~x3                          printed: conflict
+/// ```
 pub fn probe_file<D: Desk>(alloc: Global, asked: &ProbeArgs<'_>, desk: &mut D) -> Outcome
     requires closed { IsClosed (D.state desk.old) }
     ensures implements { let new = D.state desk.new in Implements (probe_spec (as_probe_words asked.now)) (seen_from new (D.state desk.old)) (seen_from new new) result }

@@ -22,7 +22,7 @@ use pb_lrat::{RefuteFault, refute};
 use pb_words::RefuteArgs;
 use std::alloc::Global;
 
-// The outcome of a text that is no refutation.
+// Returns the outcome that reports why a text is no refutation.
 fn lrat_refusal(fault: RefuteFault) -> Outcome
     ensures { result ≡ lrat_refusal fault }
 {
@@ -35,7 +35,7 @@ fn lrat_refusal(fault: RefuteFault) -> Outcome
     }
 }
 
-// Opens the refutation of the clauses of a CNF, goes through it, and says the line where it is one.
+// Opens and checks the refutation of the clauses of a CNF, and prints `line` if it is one.
 fn check_refutation<D: Desk>(
     alloc: Global,
     vars: u32,
@@ -58,8 +58,8 @@ fn check_refutation<D: Desk>(
     }
 }
 
-/// Goes through a CNF and its derivation, which were opened in slots 1 and 2, and then through the refutation, and says the line where
-/// the derivation is accepted and the CNF refuted.
+/// Checks a CNF and its derivation, which were opened in slots 1 and 2, and then the refutation, and prints `line` if the derivation is
+/// accepted and the CNF refuted.
 pub fn refute_opened<D: Desk>(
     alloc: Global,
     problem: &Problem,
@@ -85,8 +85,14 @@ pub fn refute_opened<D: Desk>(
     }
 }
 
-/// Says whether a problem is refuted: its derivation is accepted, so that each solution extends to a model of the CNF, and the
-/// refutation shows that there is none. The problem is read whole first; the clauses of the CNF are kept, and of the other texts a line.
+/// Checks whether a problem has no solution, and prints `refuted` if so: its derivation is accepted, so that each solution extends to a
+/// model of the CNF, and the refutation shows that there is none. The problem is read whole first; the clauses of the CNF are kept, and
+/// of the other texts a line.
+///
+/// ```text
+/// +1 x1 >= 1 ; +1 ~x1 >= 1 ;      the problem; CNF and derivation are those of `encode`
+/// 3 0 1 2 0\n                     the refutation: the empty clause, by clauses 1 and 2
+/// ```
 pub fn refute_file<D: Desk>(alloc: Global, asked: &RefuteArgs<'_>, desk: &mut D) -> Outcome
     requires closed { IsClosed (D.state desk.old) }
     ensures implements { let new = D.state desk.new in Implements (refute_spec (as_refute_words asked.now)) (seen_from new (D.state desk.old)) (seen_from new new) result }

@@ -13,8 +13,8 @@ use pb_encode::weighted;
 use pb_words::WcnfArgs;
 use std::alloc::Global;
 
-/// Makes the weighted CNF file of a problem, of hard clauses and of soft literals that cost what its objective does, and says
-/// the size of the hard clauses.
+/// Makes the weighted CNF file of a problem, of hard clauses and of soft literals that cost what its objective does, and prints the size
+/// of the hard clauses.
 pub fn wcnf_file<D: Desk>(alloc: Global, asked: &WcnfArgs<'_>, desk: &mut D) -> Outcome
     requires closed { IsClosed (D.state desk.old) }
     ensures implements { let new = D.state desk.new in Implements (wcnf_spec (as_wcnf_words asked.now)) (seen_from new (D.state desk.old)) (seen_from new new) result }
