@@ -18,7 +18,7 @@ use pb_encode::bound_rows;
 use pb_suite::Outcome;
 use std::alloc::{AllocError, Global};
 
-/// A value that the objective may be below, and the literal that is false just there.
+/// A value that the objective may be below, and the literal that is false exactly then.
 #[repr(C)]
 #[derive(Clone, Copy)]
 pub struct PbcnfRow {
@@ -31,7 +31,7 @@ pub struct PbcnfRow {
     pub unused: i32,
 }
 
-/// The row of a value and a literal.
+/// Returns the row of a value and a literal, as the C header has it.
 pub(crate) fn row_of(value: &i128, lit: &Lit) -> PbcnfRow
     ensures { told_by result ≡ numbers_of (value.now, lit.now) }
 {
@@ -44,7 +44,7 @@ pub(crate) fn row_of(value: &i128, lit: &Lit) -> PbcnfRow
     }
 }
 
-// Rows of values and literals, in numbers.
+// Returns values and literals as rows of the C header.
 fn rows_of(alloc: Global, rows: &[(i128, Lit)]) -> Result<Vec<PbcnfRow>, AllocError>
     ensures { IfOk result (λ given. TellRows rows.now given.items) }
 {
@@ -55,7 +55,7 @@ fn rows_of(alloc: Global, rows: &[(i128, Lit)]) -> Result<Vec<PbcnfRow>, AllocEr
     Ok(given)
 }
 
-// The rows of a problem's table, which is built anew: none where none is asked for.
+// Returns the rows of a problem's table, which is built anew; none if no table is requested.
 fn rows_in(alloc: Global, ready: &Ready) -> Result<Vec<PbcnfRow>, NoMemory>
     requires { IsReady ready.now }
     ensures { IfOk result (λ rows. TellRows (bound_rows ready.now.options ready.now.problem) rows.items) }
@@ -64,7 +64,7 @@ fn rows_in(alloc: Global, ready: &Ready) -> Result<Vec<PbcnfRow>, NoMemory>
     Ok(rows_of(alloc, rows.as_slice())?)
 }
 
-// Puts the rows of a problem's table.
+// Copies the rows of a problem's table into the room.
 fn put_rows(alloc: Global, ready: &Ready, rows: &mut [PbcnfRow]) -> Ending
     requires { IsReady ready.now }
     ensures { Ends (AreSizedRows ready.now) IsWanting no_size rows.old rows.new result.size result.outcome }
@@ -75,7 +75,7 @@ fn put_rows(alloc: Global, ready: &Ready, rows: &mut [PbcnfRow]) -> Ending
     }
 }
 
-/// Puts the rows of the table of bounds on the objective of an OPB text.
+/// Copies the rows of the table of bounds on the objective of an OPB text into the room.
 pub fn bounds_into(
     alloc: Global,
     opb: &[u8],

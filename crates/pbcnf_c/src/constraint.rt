@@ -8,7 +8,7 @@ use crate::size::Ending;
 use pb_columns::{Columns, PbcnfSum};
 use std::alloc::Global;
 
-/// What stands beside a sum.
+/// The relation and the right side of a sum, and the first fresh variable.
 #[repr(C)]
 #[derive(Clone, Copy)]
 pub struct PbcnfSide {
@@ -30,6 +30,7 @@ pub struct Asked<'a> {
     pub side: &'a PbcnfSide,
 }
 
+// Returns the sum of a side without a condition, over so many terms.
 fn one_sum(side: &PbcnfSide, terms: usize) -> PbcnfSum
     ensures { result ≡ one_sum side.now terms }
 {
@@ -42,7 +43,7 @@ fn one_sum(side: &PbcnfSide, terms: usize) -> PbcnfSum
     }
 }
 
-/// Puts the integers of the clauses of a constraint.
+/// Copies the integers of the clauses of a constraint into the room.
 pub fn constrain_one_into(
     alloc: Global,
     asked: &Asked<'_>,
@@ -62,7 +63,7 @@ pub fn constrain_one_into(
     blamed.ending
 }
 
-/// Puts the derivation of these clauses.
+/// Copies the derivation of the clauses of a constraint into the room.
 pub fn derive_one_into(
     alloc: Global,
     asked: &Asked<'_>,

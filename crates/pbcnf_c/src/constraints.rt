@@ -20,13 +20,14 @@ pub struct Blame {
     pub at: u64,
 }
 
-/// How a call over constraints ends, and which is to blame.
+/// The end of a call over constraints, and the number of the one to blame, from 1; 0 if no single one is.
 #[derive(Drop)]
 pub struct BlamedEnding {
     pub ending: Ending,
     pub at: u64,
 }
 
+// Returns the outcome of a fault of columns, and the constraint to blame.
 fn blame_of(fault: ColumnFault) -> Blame
     ensures { result ≡ blame_of fault }
 {
@@ -72,7 +73,7 @@ fn prepare_all(alloc: Global, columns: &Columns<'_>, chosen: &PbcnfOptions) -> R
     }
 }
 
-/// Puts the integers of the clauses of constraints.
+/// Copies the integers of the clauses of constraints into the room.
 pub fn constrain_into(
     alloc: Global,
     columns: &Columns<'_>,
@@ -93,7 +94,7 @@ pub fn constrain_into(
     }
 }
 
-/// Puts the derivation of these clauses.
+/// Copies the derivation of the clauses of constraints into the room.
 pub fn derive_all_into(
     alloc: Global,
     columns: &Columns<'_>,

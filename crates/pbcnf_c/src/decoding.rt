@@ -11,7 +11,7 @@ use pb_model::{Decoded, Model, decode, read_model, write_map, write_solution};
 use pb_suite::{Outcome, model_refusal, problem_of_text};
 use std::alloc::Global;
 
-// Puts the text of a solution.
+// Copies the text of a solution into the room.
 fn put_solution(alloc: Global, problem: &Problem, model: &Model, room: &mut [u8]) -> Said
     requires within { IsWithinLimits problem.now }
     requires covers { length model.now.values ≡ problem.now.vars }
@@ -24,7 +24,7 @@ fn put_solution(alloc: Global, problem: &Problem, model: &Model, room: &mut [u8]
     }
 }
 
-// Puts the solution that a model gives, or tells why it gives none.
+// Copies the solution that a model gives into the room, or answers why it gives none.
 fn conclude(alloc: Global, problem: &Problem, model: &Model, room: &mut [u8]) -> Said
     requires within { IsWithinLimits problem.now }
     requires covers { length model.now.values ≡ problem.now.vars }
@@ -37,7 +37,7 @@ fn conclude(alloc: Global, problem: &Problem, model: &Model, room: &mut [u8]) ->
     }
 }
 
-/// Puts the solution that a solver's text gives.
+/// Copies the solution that a solver's text gives into the room.
 pub fn decode_into(
     alloc: Global,
     opb: &[u8],
@@ -57,7 +57,7 @@ pub fn decode_into(
     }
 }
 
-// Puts the free names of a problem.
+// Copies the free names of a problem into the room.
 fn put_names(alloc: Global, problem: &Problem, room: &mut [u8]) -> Said
     requires { IsWithinLimits problem.now }
     ensures { SaysNames problem.now room.old room.new result.length result.outcome }
@@ -69,7 +69,7 @@ fn put_names(alloc: Global, problem: &Problem, room: &mut [u8]) -> Said
     }
 }
 
-/// Puts the free names of an OPB text.
+/// Copies the free names of an OPB text into the room.
 pub fn map_into(alloc: Global, opb: &[u8], room: &mut [u8]) -> Said
     ensures { MapsInto opb.now room.old room.new result.length result.outcome }
 {

@@ -20,7 +20,7 @@ use pb_family::StepTextSink;
 use pb_suite::Outcome;
 use std::alloc::{AllocError, Global};
 
-// The p line.
+// Returns the p line of a CNF.
 fn header(alloc: Global, summary: &Summary) -> Result<Vec<u8>, AllocError>
     ensures { IfOk result (λ v. v.items ≡ header_text summary.now.vars summary.now.clauses) }
 {
@@ -33,7 +33,7 @@ fn header(alloc: Global, summary: &Summary) -> Result<Vec<u8>, AllocError>
     Ok(line)
 }
 
-// Puts the CNF text of a problem.
+// Copies the CNF text of a problem into the room.
 fn put_cnf(alloc: Global, ready: &Ready, cnf: &mut [u8]) -> Ending
     requires { IsReady ready.now }
     ensures { PutsOf (problem_text ready.now.options ready.now.problem) ready.now cnf.old cnf.new result.size result.outcome }
@@ -48,7 +48,7 @@ fn put_cnf(alloc: Global, ready: &Ready, cnf: &mut [u8]) -> Ending
     }
 }
 
-/// Puts the integers of the clauses of a problem.
+/// Copies the integers of the clauses of a problem into the room.
 pub fn put_integers(alloc: Global, ready: &Ready, integers: &mut [i32]) -> Ending
     requires { IsReady ready.now }
     ensures { PutsOf (flat_map clause_numbers (problem_clauses ready.now.options ready.now.problem)) ready.now integers.old integers.new result.size result.outcome }
@@ -60,7 +60,7 @@ pub fn put_integers(alloc: Global, ready: &Ready, integers: &mut [i32]) -> Endin
     }
 }
 
-/// Puts the text of the derivation of a problem's clauses.
+/// Copies the text of the derivation of a problem's clauses into the room.
 pub fn put_steps(alloc: Global, ready: &Ready, proof: &mut [u8]) -> Ending
     requires { IsReady ready.now }
     ensures { PutsOf (derivation_text ready.now.options ready.now.problem) ready.now proof.old proof.new result.size result.outcome }
@@ -72,7 +72,7 @@ pub fn put_steps(alloc: Global, ready: &Ready, proof: &mut [u8]) -> Ending
     }
 }
 
-/// Puts the CNF text of an OPB text.
+/// Copies the CNF text of an OPB text into the room.
 pub fn encode_into(
     alloc: Global,
     opb: &[u8],
@@ -88,7 +88,7 @@ pub fn encode_into(
     }
 }
 
-/// Puts the integers of the clauses of an OPB text.
+/// Copies the integers of the clauses of an OPB text into the room.
 pub fn clauses_into(
     alloc: Global,
     opb: &[u8],
@@ -104,7 +104,7 @@ pub fn clauses_into(
     }
 }
 
-/// Puts the derivation of the clauses of an OPB text.
+/// Copies the derivation of the clauses of an OPB text into the room.
 pub fn derive_into(
     alloc: Global,
     opb: &[u8],

@@ -12,7 +12,7 @@ use pb_base::{Failed, FaultCount, Lit};
 use pb_family::ClauseSink;
 use std::alloc::{AllocError, Global};
 
-/// The integer of a literal.
+/// Returns the integer of a literal: the variable's number, negative if the literal is negated.
 pub fn integer_of(lit: &Lit) -> i32
     ensures text { integer_text result ≡ literal_text lit.now ++ codes " " }
     ensures number { result ≡ literal_number lit.now }
@@ -34,7 +34,7 @@ fn push_integers(out: &mut Vec<i32>, clause: &[Lit]) -> Result<(), AllocError>
     Ok(())
 }
 
-/// Takes clauses as integers in memory. It stands over nothing, and fails where memory is wanting.
+/// Collects clauses as integers in memory. It writes to no desk, and fails if memory runs out.
 #[derive(Drop)]
 pub struct IntegerSink {
     integers: Vec<i32>,
@@ -50,7 +50,7 @@ impl ClauseSink for IntegerSink {
 
     ghost state = { λ sink. in_memory (integers_text sink.integers.items) sink.faults };
 
-    /// Where memory is wanting, it holds what it held.
+    /// Appends the integers of the clause and a 0. If memory runs out, the list is as it was.
     fn clause(&mut self, clause: &[Lit]) -> Result<(), Failed>
         ensures hands { Hands (clause.now ∷ []) result (⟦<IntegerSink as ClauseSink>⟧.state self.old) (⟦<IntegerSink as ClauseSink>⟧.state self.new) }
     {
@@ -66,7 +66,7 @@ impl ClauseSink for IntegerSink {
 }
 
 impl IntegerSink {
-    /// Holds nothing yet.
+    /// Starts with no integers.
     pub fn new(alloc: Global) -> Self
         ensures { ⟦<IntegerSink as ClauseSink>⟧.state result ≡ in_memory [] 0 }
     {
@@ -76,7 +76,7 @@ impl IntegerSink {
         }
     }
 
-    /// The integers that it holds.
+    /// Returns the integers that were collected.
     pub fn integers(&self) -> &[i32]
         ensures text { (⟦<IntegerSink as ClauseSink>⟧.state self.now).lines ≡ Some (integers_text result.now) }
         ensures small { All IsSmall result.now }

@@ -55,7 +55,7 @@ const VERSION: u32 = 0x00_04_01;
 // Which calls and structs there are: one more where a struct, a number or what a call means becomes another.
 const ABI: u32 = 1;
 
-/// The version of the library: a byte for each of its three numbers.
+/// Returns the version of the library, a byte for each of its three numbers, as 0x000401 for 0.4.1.
 #[unsafe(no_mangle)]
 pub extern "C" fn pbcnf_version() -> u32
     ensures { result ≡ 1025 }
@@ -63,7 +63,7 @@ pub extern "C" fn pbcnf_version() -> u32
     VERSION
 }
 
-/// Which structs and numbers the calls have, so that a program refuses a library of others.
+/// Returns the number of the structs and numbers that the calls have, so that a program can refuse a library of others.
 #[unsafe(no_mangle)]
 pub extern "C" fn pbcnf_abi() -> u32
     ensures { result ≡ 1 }
@@ -71,7 +71,12 @@ pub extern "C" fn pbcnf_abi() -> u32
     ABI
 }
 
-/// The CNF text of an OPB text.
+/// Copies the CNF text of an OPB text into the room, or answers status 5 and the size that is needed.
+///
+/// ```text
+/// min: +3 x1 +2 x2 ; +1 x1 +1 x2 >= 1 ;     status 0: p cnf 2 1\n1 2 0\n, vars 2, clauses 1, length 16
+/// +1 x1 >= ;                                status 1: file 1, line 1, column 10, expected 6 (an integer)
+/// ```
 #[unsafe(no_mangle)]
 pub extern "C" fn pbcnf_encode(
     alloc: Global,
@@ -91,7 +96,11 @@ pub extern "C" fn pbcnf_encode(
     tell(ending.outcome, refusal)
 }
 
-/// The clauses of an OPB text as integers, as IPASIR takes them: the literals of each, and 0.
+/// Copies the clauses of an OPB text into the room as integers, as IPASIR takes them: the literals of each, and 0.
+///
+/// ```text
+/// +1 x1 +1 x2 >= 1 ;     status 0: 1 2 0, length 3
+/// ```
 #[unsafe(no_mangle)]
 pub extern "C" fn pbcnf_clauses(
     alloc: Global,
@@ -111,7 +120,11 @@ pub extern "C" fn pbcnf_clauses(
     tell(ending.outcome, refusal)
 }
 
-/// The text of the derivation of these clauses.
+/// Copies the derivation of the clauses of an OPB text into the room, as `encode` writes it.
+///
+/// ```text
+/// +1 x1 +1 x2 >= 1 ;     status 0; the text ends in rup +1 x1 +1 x2 >= 1 ; 1\nout 2\nend\n
+/// ```
 #[unsafe(no_mangle)]
 pub extern "C" fn pbcnf_derive(
     alloc: Global,
@@ -131,7 +144,11 @@ pub extern "C" fn pbcnf_derive(
     tell(ending.outcome, refusal)
 }
 
-/// The rows of the table of bounds on the objective of an OPB text.
+/// Copies the rows of the table of bounds on the objective of an OPB text into the room, the values ascending.
+///
+/// ```text
+/// min: +2 x1 +3 x2 ; +1 x1 +1 x2 >= 1 ;     with table 1: (2, 3), (3, 4), (5, 5), length 3
+/// ```
 #[unsafe(no_mangle)]
 pub extern "C" fn pbcnf_bounds(
     alloc: Global,
@@ -151,7 +168,13 @@ pub extern "C" fn pbcnf_bounds(
     tell(ending.outcome, refusal)
 }
 
-/// The text of the solution that a solver's text gives.
+/// Copies the text of the solution that a solver's text gives into the room, once the values are tested.
+///
+/// ```text
+/// min: +3 x1 +2 x2 ; +1 x1 +1 x2 >= 1 ;     the problem
+/// s SATISFIABLE\nv -1 2 0\n                  status 0: o 2\ns SATISFIABLE\nv -x1 x2\n, length 27
+/// s SATISFIABLE\nv -1 -2 0\n                 status 8: number 1, the violated statement
+/// ```
 #[unsafe(no_mangle)]
 pub extern "C" fn pbcnf_decode(
     alloc: Global,
@@ -171,7 +194,11 @@ pub extern "C" fn pbcnf_decode(
     tell(ending.outcome, refusal)
 }
 
-/// The text that gives the numbers of the free names of an OPB text.
+/// Copies a line for each free name of an OPB text into the room: the variable's number and the name.
+///
+/// ```text
+/// +1 rain +1 sun >= 1 ;     status 0: 1 rain\n2 sun\n, length 13
+/// ```
 #[unsafe(no_mangle)]
 pub extern "C" fn pbcnf_map(
     alloc: Global,
@@ -189,7 +216,11 @@ pub extern "C" fn pbcnf_map(
     tell(ending.outcome, refusal)
 }
 
-/// The weighted CNF text of an OPB text and its objective.
+/// Copies the weighted CNF text of an OPB text and its objective into the room.
+///
+/// ```text
+/// min: +3 x1 +2 x2 ; +1 x1 +1 x2 >= 1 ;     status 0: c offset 0\nh 1 2 0\n3 -1 0\n2 -2 0\n, length 33
+/// ```
 #[unsafe(no_mangle)]
 pub extern "C" fn pbcnf_wcnf(
     alloc: Global,
@@ -209,7 +240,11 @@ pub extern "C" fn pbcnf_wcnf(
     tell(ending.outcome, refusal)
 }
 
-/// The soft literals of an OPB text's objective: a row's literal costs its value where it is false.
+/// Copies the soft literals of an OPB text's objective into the room: a row's literal costs its value if it is false.
+///
+/// ```text
+/// min: +3 x1 +2 x2 ; +1 x1 +1 x2 >= 1 ;     status 0: (3, -1), (2, -2), offset 0, length 2
+/// ```
 #[unsafe(no_mangle)]
 pub extern "C" fn pbcnf_softs(
     alloc: Global,
@@ -219,7 +254,7 @@ pub extern "C" fn pbcnf_softs(
     costs: &mut PbcnfCosts,
     refusal: &mut PbcnfRefusal,
 ) -> u8
-    // The call ends as its status says: the soft literals of the objective are at the front of the room, and the offset is told, or the
+    // The call ends as its status says: the soft literals of the objective are at the front of the room, and the offset is reported, or the
     // room is too small, or the cause is the one that is there.
     ensures { Tells (SoftsInto (bound_of bound.now) opb.now softs.old softs.new costs.new) result refusal.new }
 {
@@ -228,7 +263,13 @@ pub extern "C" fn pbcnf_softs(
     tell(costed.outcome, refusal)
 }
 
-/// Whether the derivation shows that each solution of the problem extends to a model of the CNF.
+/// Checks a derivation: status 0 says that each solution of the problem extends to a model of the CNF.
+///
+/// ```text
+/// +1 x1 +1 x2 >= 1 ;      the problem; the derivation is that of `encode`
+/// p cnf 2 1\n1 2 0\n      status 0
+/// p cnf 2 1\n1 0\n        status 7: line 4, denied 9 (not implied by), number 2
+/// ```
 #[unsafe(no_mangle)]
 pub extern "C" fn pbcnf_check(
     alloc: Global,
@@ -248,7 +289,12 @@ pub extern "C" fn pbcnf_check(
     )
 }
 
-/// Whether these show that the problem has no solution: the derivation is accepted, and the refutation is one of the CNF.
+/// Checks a derivation and a refutation: status 0 says that the problem has no solution.
+///
+/// ```text
+/// +1 x1 >= 1 ;\n+1 ~x1 >= 1 ;\n      the problem; CNF and derivation are those of `encode`
+/// 3 0 1 2 0\n                        status 0
+/// ```
 #[unsafe(no_mangle)]
 pub extern "C" fn pbcnf_refute(
     alloc: Global,
@@ -259,8 +305,8 @@ pub extern "C" fn pbcnf_refute(
     lrat: &[u8],
     refusal: &mut PbcnfRefusal,
 ) -> u8
-    // The call is done only if besides the LRAT text refutes the CNF's clauses; else the status is that of the first fault, or of the
-    // line that is denied.
+    // The call is done only if the derivation is accepted with the problem and the CNF, and the LRAT text refutes the CNF's clauses. Else
+    // the status is that of the first fault, of the first step that is not allowed, or of the line that is denied.
     ensures { Tells (Refutes (bound_of bound.now) opb.now cnf.now proof.now lrat.now) result refusal.new }
 {
     tell(
@@ -269,7 +315,11 @@ pub extern "C" fn pbcnf_refute(
     )
 }
 
-/// The words of a refusal, as the program prints them.
+/// Copies the words of a refusal into the room, as the program prints them, without the line's end.
+///
+/// ```text
+/// status 1, file 1, line 1, column 10, expected 6     pbcnf: OPB 1:10: expected an integer, length 36
+/// ```
 #[unsafe(no_mangle)]
 pub extern "C" fn pbcnf_words(
     alloc: Global,
@@ -285,8 +335,13 @@ pub extern "C" fn pbcnf_words(
     ending.outcome.status()
 }
 
-/// The clauses of many constraints as integers, one constraint's behind another's. Each has so many of the next terms. A coefficient is
-/// one word, or two, for each literal.
+/// Copies the clauses of many constraints into the room as integers, those of each constraint after those of the one before. Each sum has
+/// as many of the next terms as it says. A coefficient is one word, or two, for each literal.
+///
+/// ```text
+/// literals 1 2 3 -1, coefficients 1 1 1 1, first 4
+/// two terms >= 1, two terms <= 1     status 0: 1 2 0 1 -3 0, length 6
+/// ```
 #[unsafe(no_mangle)]
 pub extern "C" fn pbcnf_constraints(
     alloc: Global,
@@ -314,7 +369,7 @@ pub extern "C" fn pbcnf_constraints(
     tell_at(blamed.ending.outcome, blamed.at, refusal)
 }
 
-/// The text of the derivation of these clauses, beside the problem of these constraints.
+/// Copies the derivation of the clauses of many constraints into the room, as a text for the problem of these constraints alone.
 #[unsafe(no_mangle)]
 pub extern "C" fn pbcnf_constraints_derive(
     alloc: Global,
@@ -342,7 +397,11 @@ pub extern "C" fn pbcnf_constraints_derive(
     tell_at(blamed.ending.outcome, blamed.at, refusal)
 }
 
-/// The clauses of one constraint as integers. A coefficient is one word, or two, for each literal.
+/// Copies the clauses of one constraint into the room as integers. A coefficient is one word, or two, for each literal.
+///
+/// ```text
+/// literals 1 2 3, coefficients 1 1 1, at most 1, first 4     status 0: -1 -2 0 -1 -3 0 -2 -3 0, length 9
+/// ```
 #[unsafe(no_mangle)]
 pub extern "C" fn pbcnf_constraint(
     alloc: Global,
@@ -368,7 +427,7 @@ pub extern "C" fn pbcnf_constraint(
     tell(ending.outcome, refusal)
 }
 
-/// The text of the derivation of these clauses, beside the problem of this one constraint.
+/// Copies the derivation of the clauses of one constraint into the room, as a text for the problem of this constraint alone.
 #[unsafe(no_mangle)]
 pub extern "C" fn pbcnf_constraint_derive(
     alloc: Global,

@@ -8,7 +8,7 @@ use pb_base::{Failed, FaultCount, Lit};
 use pb_family::{ClauseSink, push_clause};
 use std::alloc::AllocError;
 
-// Appends the line of a clause behind what leads it, or a part of it.
+// Appends the line of a clause after its lead, or a part of the line if memory runs out.
 fn push_led(out: &mut Vec<u8>, lead: &[u8], clause: &[Lit]) -> Result<(), AllocError>
     ensures ok { OnOk result (out.new.items ≡ out.old.items ++ (lead.now ++ clause_text clause.now)) }
     ensures before { take (length out.old.items) out.new.items ≡ out.old.items }
@@ -17,8 +17,7 @@ fn push_led(out: &mut Vec<u8>, lead: &[u8], clause: &[Lit]) -> Result<(), AllocE
     push_clause(out, clause)
 }
 
-/// Takes clauses as text behind what it began with, a line each behind the same lead. It stands over no desk, and fails where
-/// memory is wanting.
+/// Collects clauses as text in memory, a line each, every line after the same lead. It writes to no desk, and fails if memory runs out.
 #[derive(Drop)]
 pub struct LineSink {
     lead: &'static [u8],
@@ -33,7 +32,7 @@ impl ClauseSink for LineSink {
 
     ghost state = { λ sink. led_in_memory sink.lead.now sink.text.items sink.faults };
 
-    /// Where memory is wanting, it holds what it held.
+    /// Appends the line of the clause. If memory runs out, the text is as it was.
     fn clause(&mut self, clause: &[Lit]) -> Result<(), Failed>
         ensures hands { Hands (clause.now ∷ []) result (⟦<LineSink as ClauseSink>⟧.state self.old) (⟦<LineSink as ClauseSink>⟧.state self.new) }
     {
@@ -49,7 +48,7 @@ impl ClauseSink for LineSink {
 }
 
 impl LineSink {
-    /// Holds this text, and puts this before each line.
+    /// Starts with this text, and puts `lead` before each line.
     pub fn new(lead: &'static [u8], head: Vec<u8>) -> Self
         ensures { ⟦<LineSink as ClauseSink>⟧.state result ≡ led_in_memory lead.now head.items 0 }
     {
@@ -60,7 +59,7 @@ impl LineSink {
         }
     }
 
-    /// The text that it holds.
+    /// Returns the text that was collected.
     pub fn into_text(self) -> Vec<u8>
         ensures { (⟦<LineSink as ClauseSink>⟧.state self).lines ≡ Some result.items }
     {

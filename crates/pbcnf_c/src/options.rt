@@ -6,7 +6,7 @@ ghost use Rattle.pbcnf_c.specs.Choices.{amo_of, bound_of, card_of, equal_of, gen
 use pb_base::{Amo, Card, EqualMode, General, MAX_BUDGET, Options};
 use pb_columns::wide;
 
-/// What is chosen of an encoding. All numbers 0 but a budget of 50,000 are what stands where nothing is chosen.
+/// The options of an encoding, in numbers. The defaults are 0 for all but the budget, which is 50,000.
 #[repr(C)]
 #[derive(Clone, Copy)]
 pub struct PbcnfOptions {
@@ -35,6 +35,7 @@ pub struct PbcnfBound {
     pub high: u64,
 }
 
+// Returns the encoding of at most one literal that a number names; `None` above 3.
 fn amo_of(word: u32) -> Option<Amo>
     ensures { result ≡ amo_of word }
 {
@@ -47,6 +48,7 @@ fn amo_of(word: u32) -> Option<Amo>
     }
 }
 
+// Returns the encoding of cardinality constraints that a number names; `None` above 2.
 fn card_of(word: u32) -> Option<Card>
     ensures { result ≡ card_of word }
 {
@@ -58,6 +60,7 @@ fn card_of(word: u32) -> Option<Card>
     }
 }
 
+// Returns the encoding of weighted sums that a number names; `None` above 2.
 fn general_of(word: u32) -> Option<General>
     ensures { result ≡ general_of word }
 {
@@ -69,6 +72,7 @@ fn general_of(word: u32) -> Option<General>
     }
 }
 
+// Returns the treatment of equalities that a number names; `None` above 1.
 fn equal_of(word: u32) -> Option<EqualMode>
     ensures { result ≡ equal_of word }
 {
@@ -79,6 +83,7 @@ fn equal_of(word: u32) -> Option<EqualMode>
     }
 }
 
+// True for 1, a table of bounds, and false for 0; `None` above 1.
 fn table_of(word: u32) -> Option<bool>
     ensures { result ≡ table_of word }
 {
@@ -89,7 +94,7 @@ fn table_of(word: u32) -> Option<bool>
     }
 }
 
-// The options with a budget.
+// Returns the options that the numbers name, with this budget; `None` if a number is out of its range.
 fn options_at(chosen: &PbcnfOptions, budget: u64) -> Option<Options>
     requires budget { budget ≡ chosen.now.budget }
     requires range { IsBudget budget }
@@ -110,7 +115,7 @@ fn options_at(chosen: &PbcnfOptions, budget: u64) -> Option<Options>
     })
 }
 
-/// The options that the numbers choose, if they choose any.
+/// Returns the options that the numbers name; `None` if one is out of its range.
 pub fn options_of(chosen: &PbcnfOptions) -> Option<Options>
     ensures value { result ≡ options_of chosen.now }
 {
@@ -121,7 +126,7 @@ pub fn options_of(chosen: &PbcnfOptions) -> Option<Options>
     options_at(chosen, budget)
 }
 
-/// The bound, if there is one.
+/// Returns the bound on the objective, if one is set.
 pub fn bound_of(bound: &PbcnfBound) -> Option<i128>
     ensures { result ≡ bound_of bound.now }
 {

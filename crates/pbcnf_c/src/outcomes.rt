@@ -1,4 +1,4 @@
-//! From the numbers of a refusal back to the outcome that they tell.
+//! From the numbers of a refusal back to the outcome that they report.
 ghost use Rattle.std.specs.Prelude.{◌≡◌, ◌≢◌, IfSome, IsNone};
 ghost use Rattle.std.specs.Option.{option_map};
 ghost use Rattle.pb_suite.specs.declared.outcome.Outcome.{Outcome};
@@ -12,6 +12,7 @@ use pb_lrat::LratDenied;
 use pb_steps::Denied;
 use pb_suite::Outcome;
 
+// Returns the text that a number of the C header names; `None` for 0, no text, and above 5.
 fn file_at(number: u32) -> Option<File>
     ensures { result ≡ file_at number }
 {
@@ -25,6 +26,7 @@ fn file_at(number: u32) -> Option<File>
     }
 }
 
+// Returns the limit that a number of the C header names; `None` for 0 and unknown numbers.
 fn limit_at(number: u32) -> Option<LimitKind>
     ensures { result ≡ limit_at number }
 {
@@ -44,6 +46,7 @@ fn limit_at(number: u32) -> Option<LimitKind>
     }
 }
 
+// Returns the expected token that a number of the C header names; `None` for 0 and unknown numbers.
 fn expected_at(number: u32) -> Option<Expected>
     ensures { result ≡ expected_at number }
 {
@@ -86,7 +89,7 @@ fn expected_at(number: u32) -> Option<Expected>
     }
 }
 
-// Lines count from 1, so that 0 is no place.
+// Returns the place of a refusal; `None` if its line is 0, since lines count from 1.
 fn place_at(refusal: &PbcnfRefusal) -> Option<Place>
     ensures { result ≡ place_at refusal.now }
 {
@@ -99,6 +102,7 @@ fn place_at(refusal: &PbcnfRefusal) -> Option<Place>
     })
 }
 
+// Returns the variable of this number; `None` unless it is from 1 to 2^31 - 1.
 fn var_at(number: u64) -> Option<Var>
     ensures { result ≡ var_at number }
 {
@@ -108,7 +112,7 @@ fn var_at(number: u64) -> Option<Var>
     Some(Var::new(number as u32))
 }
 
-// The reason of this number, and what it names.
+// Returns the reason why a step is denied that a number of the C header names, with its variable or id.
 fn denied_at(why: u32, number: u64) -> Option<Denied>
     ensures { result ≡ denied_at why number }
 {
@@ -134,7 +138,7 @@ fn denied_at(why: u32, number: u64) -> Option<Denied>
     }
 }
 
-// The reason of this number, and what it names.
+// Returns the reason why a line of a refutation is denied that a number of the C header names, with its id.
 fn lrat_at(why: u32, number: u64) -> Option<LratDenied>
     ensures { result ≡ lrat_at why number }
 {
@@ -147,6 +151,7 @@ fn lrat_at(why: u32, number: u64) -> Option<LratDenied>
     }
 }
 
+// Returns the refusal of a text, if file, place and expected token are all named.
 fn refused_at(refusal: &PbcnfRefusal) -> Option<Outcome>
     ensures { result ≡ refused_at refusal.now }
 {
@@ -160,6 +165,7 @@ fn refused_at(refusal: &PbcnfRefusal) -> Option<Outcome>
     })
 }
 
+// Returns the outcome of a passed limit, if the limit is named, and the file too unless it is 0.
 fn limited_at(refusal: &PbcnfRefusal) -> Option<Outcome>
     ensures { result ≡ limited_at refusal.now }
 {
@@ -179,6 +185,7 @@ fn limited_at(refusal: &PbcnfRefusal) -> Option<Outcome>
     })
 }
 
+// Returns the outcome of a derivation that is rejected, if the reason is named.
 fn rejected_at(refusal: &PbcnfRefusal) -> Option<Outcome>
     ensures { result ≡ rejected_at refusal.now }
 {
@@ -189,6 +196,7 @@ fn rejected_at(refusal: &PbcnfRefusal) -> Option<Outcome>
     })
 }
 
+// Returns the outcome of a refutation that is denied, if the reason is named.
 fn none_refuted_at(refusal: &PbcnfRefusal) -> Option<Outcome>
     ensures { result ≡ none_refuted_at refusal.now }
 {
@@ -199,7 +207,7 @@ fn none_refuted_at(refusal: &PbcnfRefusal) -> Option<Outcome>
     })
 }
 
-// The one outcome that can have these numbers.
+// Returns the one outcome that can have these numbers, by the status first.
 fn outcome_at(refusal: &PbcnfRefusal) -> Option<Outcome>
     ensures { result ≡ outcome_at refusal.now }
 {
@@ -221,7 +229,7 @@ fn outcome_at(refusal: &PbcnfRefusal) -> Option<Outcome>
     }
 }
 
-// The numbers of that outcome.
+// Returns the numbers of the one outcome that a refusal can stand for, to compare them with the refusal.
 fn numbers_at(refusal: &PbcnfRefusal) -> Option<PbcnfRefusal>
     ensures { result ≡ option_map refusal_of (outcome_at refusal.now) }
 {
@@ -231,7 +239,7 @@ fn numbers_at(refusal: &PbcnfRefusal) -> Option<PbcnfRefusal>
     }
 }
 
-/// The outcome that has these numbers, if a call has one.
+/// Returns the outcome with exactly these numbers, if a call has one.
 pub fn outcome_of(refusal: &PbcnfRefusal) -> Option<Outcome>
     ensures some { IfSome result (λ outcome. refusal.now ≡ refusal_of outcome) }
     ensures none { IsNone result → (outcome : Outcome) → IsProper outcome → refusal.now ≢ refusal_of outcome }

@@ -16,7 +16,7 @@ pub struct PbcnfRefusal {
     pub line: u64,
     /// Of a place in a text, in bytes from 1.
     pub column: u64,
-    /// The variable or id that `denied` or `unproved` tell beside, or the violated statement, from 1.
+    /// The variable or id that goes with `denied` or `unproved`; the violated statement, or the constraint to blame, from 1.
     pub number: u64,
     /// What the call returned.
     pub status: u32,
@@ -32,7 +32,7 @@ pub struct PbcnfRefusal {
     pub unproved: u32,
 }
 
-// Nothing but a status.
+// Returns a refusal with this status and nothing else.
 fn blank(status: u8) -> PbcnfRefusal
     ensures { result ≡ blank status }
 {
@@ -49,8 +49,9 @@ fn blank(status: u8) -> PbcnfRefusal
     }
 }
 
-// The numbers of these three are those of the header, which stay whatever is put into the types.
+// The numbers of the three functions below are those of the C header, which stay the same whatever variants the types get.
 
+// Returns the number of a text in the C header, from 1.
 fn file_number(file: File) -> u32
     ensures { result ≡ file_number file }
 {
@@ -63,6 +64,7 @@ fn file_number(file: File) -> u32
     }
 }
 
+// Returns the number of a limit in the C header, from 1.
 fn limit_number(which: LimitKind) -> u32
     ensures { result ≡ limit_number which }
 {
@@ -81,6 +83,7 @@ fn limit_number(which: LimitKind) -> u32
     }
 }
 
+// Returns the number of an expected token in the C header, from 1.
 fn expected_number(expected: Expected) -> u32
     ensures { result ≡ expected_number expected }
 {
@@ -122,7 +125,7 @@ fn expected_number(expected: Expected) -> u32
     }
 }
 
-// The reason, and what it names.
+// Returns the number of the reason why a step is denied, from 1, and the variable or id that goes with it; 0 if none does.
 fn denied_number(denied: Denied) -> (u32, u64)
     ensures { result ≡ denied_number denied }
 {
@@ -141,7 +144,7 @@ fn denied_number(denied: Denied) -> (u32, u64)
     }
 }
 
-// The reason, and what it names.
+// Returns the number of the reason why a line of a refutation is denied, from 1, and the id that goes with it; 0 if none does.
 fn lrat_number(why: LratDenied) -> (u32, u64)
     ensures { result ≡ lrat_number why }
 {
@@ -153,6 +156,7 @@ fn lrat_number(why: LratDenied) -> (u32, u64)
     }
 }
 
+// Returns the refusal that a text is not in its grammar.
 fn refused_told(file: File, place: Place, expected: Expected) -> PbcnfRefusal
     ensures { result ≡ refused_told file place expected }
 {
@@ -164,6 +168,7 @@ fn refused_told(file: File, place: Place, expected: Expected) -> PbcnfRefusal
     told
 }
 
+// Returns the refusal that a limit is passed; a text and a place only if there are any.
 fn limit_told(file: Option<File>, which: LimitKind, place: Option<Place>) -> PbcnfRefusal
     ensures { result ≡ limit_told file which place }
 {
@@ -179,6 +184,7 @@ fn limit_told(file: Option<File>, which: LimitKind, place: Option<Place>) -> Pbc
     told
 }
 
+// Returns the refusal that the step at a line of a derivation is not allowed.
 fn denied_told(line: u64, denied: Denied) -> PbcnfRefusal
     ensures { result ≡ denied_told line denied }
 {
@@ -190,6 +196,7 @@ fn denied_told(line: u64, denied: Denied) -> PbcnfRefusal
     told
 }
 
+// Returns the refusal that a line of a refutation is denied.
 fn lrat_told(line: u64, why: LratDenied) -> PbcnfRefusal
     ensures { result ≡ lrat_told line why }
 {
@@ -201,7 +208,7 @@ fn lrat_told(line: u64, why: LratDenied) -> PbcnfRefusal
     told
 }
 
-// The text is named, without a place.
+// Returns the refusal that an OPB text has no objective; it names no place.
 fn objective_told() -> PbcnfRefusal
     ensures { result ≡ objective_told }
 {
@@ -210,7 +217,7 @@ fn objective_told() -> PbcnfRefusal
     told
 }
 
-/// An outcome in numbers.
+/// Returns the numbers of an outcome.
 pub fn refusal_of(outcome: Outcome) -> PbcnfRefusal
     ensures { result ≡ refusal_of outcome }
 {
@@ -238,7 +245,7 @@ pub fn refusal_of(outcome: Outcome) -> PbcnfRefusal
     }
 }
 
-/// Tells how a call ended, and gives its status.
+/// Reports how a call ended, and returns its status.
 pub fn tell(outcome: Outcome, refusal: &mut PbcnfRefusal) -> u8
     ensures status { result ≡ status_of outcome }
     ensures numbers { refusal.new ≡ refusal_of outcome }
@@ -247,7 +254,7 @@ pub fn tell(outcome: Outcome, refusal: &mut PbcnfRefusal) -> u8
     outcome.status()
 }
 
-/// The same, beside the number of the constraint to blame.
+/// Reports how a call ended, with the number of the constraint to blame, and returns its status.
 pub fn tell_at(outcome: Outcome, at: u64, refusal: &mut PbcnfRefusal) -> u8
     ensures status { result ≡ status_of outcome }
     ensures numbers { refusal.new ≡ record (refusal_of outcome) { number = at } }

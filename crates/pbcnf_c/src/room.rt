@@ -4,7 +4,7 @@ ghost use Rattle.pbcnf_c.specs.Rooms.{Fills};
 
 use pb_suite::Outcome;
 
-// Puts items at the front of memory that has room for them.
+// Copies items to the front of memory that has room for them.
 fn put<T: Copy>(items: &[T], room: &mut [T])
     requires { length items.now ≤ length room.old }
     ensures { room.new ≡ items.now ++ drop (length items.now) room.old }
@@ -12,7 +12,7 @@ fn put<T: Copy>(items: &[T], room: &mut [T])
     room[..items.len()].copy_from_slice(items);
 }
 
-/// Puts items at the front of memory, if it has room for them.
+/// Copies items to the front of memory, if it has room for them; else the outcome is that of a room that is too small.
 pub fn fill<T: Copy>(items: &[T], room: &mut [T]) -> Outcome
     ensures { Fills items.now room.old room.new result }
 {

@@ -26,7 +26,7 @@ fn shelve(alloc: Global, shelf: &mut Shelf, name: &str, text: &[u8]) -> Result<(
     Ok(())
 }
 
-/// The texts of a problem, of its CNF and of a derivation.
+/// Returns the texts of a problem, of its CNF and of a derivation as files in memory.
 pub fn checked_texts(alloc: Global, opb: &[u8], cnf: &[u8], proof: &[u8]) -> Result<Shelf, NoMemory>
     ensures { IfOk result (λ shelf. shelf ≡ checked_texts opb.now cnf.now proof.now) }
 {
@@ -37,7 +37,7 @@ pub fn checked_texts(alloc: Global, opb: &[u8], cnf: &[u8], proof: &[u8]) -> Res
     Ok(shelf)
 }
 
-/// The same, and that of a refutation.
+/// Returns the texts of a problem, of its CNF, of a derivation and of a refutation as files in memory.
 pub fn refuted_texts(
     alloc: Global,
     opb: &[u8],

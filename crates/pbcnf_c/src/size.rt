@@ -7,7 +7,7 @@ use crate::room::fill;
 use pb_encode::Summary;
 use pb_suite::Outcome;
 
-/// How large an encoding is.
+/// The size of an encoding.
 #[repr(C)]
 #[derive(Clone, Copy)]
 pub struct PbcnfSize {
@@ -20,13 +20,14 @@ pub struct PbcnfSize {
     pub length: u64,
 }
 
-/// How a call ends, and the size that it tells.
+/// The end of a call that makes an encoding, and the size that it reports.
 #[derive(Drop)]
 pub struct Ending {
     pub outcome: Outcome,
     pub size: PbcnfSize,
 }
 
+// Returns the size that is reported if nothing is made: 0 for all.
 fn no_size() -> PbcnfSize
     ensures { result ≡ no_size }
 {
@@ -38,6 +39,7 @@ fn no_size() -> PbcnfSize
     }
 }
 
+// Returns the size that is reported for a summary and so many bytes, integers or rows.
 fn size_of(summary: &Summary, length: usize) -> PbcnfSize
     ensures { result ≡ size_of summary.now length }
 {
@@ -49,7 +51,7 @@ fn size_of(summary: &Summary, length: usize) -> PbcnfSize
     }
 }
 
-/// Nothing is made.
+/// Ends a call that makes nothing.
 pub fn stopped(outcome: Outcome) -> Ending
     ensures outcome { result.outcome ≡ outcome }
     ensures size { result.size ≡ no_size }
@@ -60,7 +62,7 @@ pub fn stopped(outcome: Outcome) -> Ending
     }
 }
 
-/// What is made is put into the room.
+/// Ends a call by copying what was made into the room, if it fits; the size is reported anyway.
 pub fn delivered<T: Copy>(items: &[T], summary: &Summary, room: &mut [T]) -> Ending
     ensures room { Fills items.now room.old room.new result.outcome }
     ensures size { result.size ≡ size_of summary.now (length items.now) }

@@ -19,7 +19,7 @@ use pb_norm::Linear;
 use pb_suite::{Outcome, problem_of_text};
 use std::alloc::{AllocError, Global};
 
-/// What the weights of soft literals are added to, and how many there are.
+/// The offset of an objective, and the number of its soft literals.
 #[repr(C)]
 #[derive(Clone, Copy)]
 pub struct PbcnfCosts {
@@ -30,14 +30,14 @@ pub struct PbcnfCosts {
     pub length: u64,
 }
 
-/// How a call ends that puts soft literals, and what it tells beside them.
+/// The end of a call that copies soft literals, and the costs that it reports.
 #[derive(Drop)]
 pub struct Costed {
     pub outcome: Outcome,
     pub costs: PbcnfCosts,
 }
 
-// Nothing is told.
+// Ends a call that copies no soft literals, and reports costs of 0.
 fn uncosted(outcome: Outcome) -> Costed
     ensures outcome { result.outcome ≡ outcome }
     ensures costs { result.costs ≡ no_costs }
@@ -52,7 +52,7 @@ fn uncosted(outcome: Outcome) -> Costed
     }
 }
 
-// The soft literals are put into the room.
+// Ends a call by copying soft literals into the room, if they fit; offset and number are reported anyway.
 fn with_costs(softs: &[PbcnfRow], offset: i128, room: &mut [PbcnfRow]) -> Costed
     ensures room { Fills softs.now room.old room.new result.outcome }
     ensures offset { wide result.costs.offset_low result.costs.offset_high ≡ offset }
@@ -69,7 +69,7 @@ fn with_costs(softs: &[PbcnfRow], offset: i128, room: &mut [PbcnfRow]) -> Costed
     }
 }
 
-// The soft literals of an objective in normal form: for each term that its literal is to be false.
+// Returns the soft literals of an objective in normal form: for each term that its literal is to be false.
 fn softs_of(alloc: Global, objective: &Linear) -> Result<Vec<PbcnfRow>, AllocError>
     ensures { IfOk result (λ given. TellRows (map soft_row (map opposite objective.now.terms)) given.items) }
 {
@@ -82,7 +82,7 @@ fn softs_of(alloc: Global, objective: &Linear) -> Result<Vec<PbcnfRow>, AllocErr
     Ok(given)
 }
 
-// Puts the soft literals of a problem's objective.
+// Copies the soft literals of a problem's objective into the room.
 fn put_softs(alloc: Global, problem: &Problem, room: &mut [PbcnfRow]) -> Costed
     requires { IsWithinLimits problem.now }
     ensures { Ends (AreSoftsOf problem.now) IsWanting no_costs room.old room.new result.costs result.outcome }
@@ -96,7 +96,7 @@ fn put_softs(alloc: Global, problem: &Problem, room: &mut [PbcnfRow]) -> Costed
     }
 }
 
-/// Puts the soft literals of the objective of an OPB text.
+/// Copies the soft literals of the objective of an OPB text into the room.
 pub fn softs_into(alloc: Global, opb: &[u8], bound: &PbcnfBound, room: &mut [PbcnfRow]) -> Costed
     ensures { SoftsInto (bound_of bound.now) opb.now room.old room.new result.costs result.outcome }
 {

@@ -29,7 +29,7 @@ fn push_number(out: &mut Vec<u8>, number: i128) -> Result<(), AllocError>
     out.extend_from_slice(Buffer::new().format(number).as_bytes())
 }
 
-// The line of the offset, which the costs are added to.
+// Returns the line of the offset, which the costs are added to.
 fn offset_line(alloc: Global, objective: &Linear) -> Result<Vec<u8>, AllocError>
     ensures { IfOk result (λ line. line.items ≡ offset_text (pos (2 ^ 100) -ℤ pos objective.now.degree)) }
 {
@@ -60,7 +60,7 @@ fn push_softs(out: &mut Vec<u8>, objective: &Linear) -> Result<(), AllocError>
     Ok(())
 }
 
-// The text of a problem and of its objective in normal form.
+// Returns the weighted CNF text of a problem and of its objective in normal form.
 fn weighted_text(alloc: Global, ready: &Ready, objective: &Linear) -> Result<Vec<u8>, NoMemory>
     requires ready { IsReady ready.now }
     requires objective { objective.now ≡ objective_form ready.now.problem }
@@ -76,7 +76,7 @@ fn weighted_text(alloc: Global, ready: &Ready, objective: &Linear) -> Result<Vec
     Ok(text)
 }
 
-// Puts the weighted CNF text of a problem.
+// Copies the weighted CNF text of a problem into the room.
 fn put_wcnf(alloc: Global, ready: &Ready, wcnf: &mut [u8]) -> Ending
     requires { IsReady ready.now }
     ensures { PutsOf (weighted_text ready.now.options ready.now.problem) ready.now wcnf.old wcnf.new result.size result.outcome }
@@ -90,7 +90,7 @@ fn put_wcnf(alloc: Global, ready: &Ready, wcnf: &mut [u8]) -> Ending
     }
 }
 
-/// Puts the weighted CNF text of an OPB text.
+/// Copies the weighted CNF text of an OPB text into the room.
 pub fn weigh_into(
     alloc: Global,
     opb: &[u8],

@@ -10,14 +10,14 @@ use pb_suite::Outcome;
 use std::alloc::Global;
 use std::fmt;
 
-// Whether a constraint can be to blame.
+// True if a refusal of this status can name a constraint to blame: bad numbers, or a limit of no text.
 fn may_blame(refusal: &PbcnfRefusal) -> bool
     ensures { result ≡ may_blame refusal.now }
 {
     refusal.status == 2 || (refusal.status == 3 && refusal.file == 0)
 }
 
-// The number of the constraint to blame.
+// Returns the number of the constraint to blame, from 1, and 0 if there is none.
 fn blame_in(refusal: &PbcnfRefusal) -> u64
     ensures { result ≡ blame_in refusal.now }
 {
@@ -28,7 +28,7 @@ fn blame_in(refusal: &PbcnfRefusal) -> u64
     }
 }
 
-// The numbers without that of the constraint to blame.
+// Returns the refusal without the number of the constraint to blame.
 fn without_blame(refusal: &PbcnfRefusal) -> PbcnfRefusal
     ensures { result ≡ without_blame refusal.now }
 {
@@ -46,7 +46,7 @@ struct Told {
     outcome: Outcome,
 }
 
-// What is to blame: a constraint, or what these words say.
+// The beginning of a line of words: the number of the constraint to blame or, if it is 0, the word `all`.
 #[derive(Clone, Copy)]
 struct Culprit<'a> {
     at: u64,
@@ -59,6 +59,7 @@ impl<'a> fmt::Display for Culprit<'a> {
 
     ghost output = { λ culprit. Some (blame_words culprit.at culprit.all.now) };
 
+    // Writes `pbcnf: constraint 3: `, or `pbcnf: usage: ` and the like if no constraint is to blame.
     fn fmt<W: fmt::Write>(&self, f: &mut fmt::Formatter<W>) -> fmt::Result {
         if self.at == 0 {
             write!(f, "pbcnf: {}: ", self.all)
@@ -74,6 +75,7 @@ impl fmt::Display for Told {
 
     ghost output = { λ told. Some (call_words told.at told.outcome) };
 
+    // Writes the words of an outcome as the program does, and those of a call's own outcomes: bad numbers, limits of no text, no room.
     fn fmt<W: fmt::Write>(&self, f: &mut fmt::Formatter<W>) -> fmt::Result {
         let at = self.at;
         match &self.outcome {
@@ -95,7 +97,7 @@ impl fmt::Display for Told {
     }
 }
 
-/// Puts the words of a refusal, as the program prints them but where a call differs: none where all was done.
+/// Copies the words of a refusal into the room, as the program prints them but where a call differs; none after a call that is done.
 pub fn words_into(alloc: Global, refusal: &PbcnfRefusal, room: &mut [u8]) -> Said
     ensures { SaysRefusal refusal.now room.old room.new result.length result.outcome }
 {
