@@ -20,12 +20,14 @@ impl<R: Eprint> Diagnostics for StandardError<'_, R> {
 
     ghost told = { λ _. None };
 
+    // Prints the line with an LF. A closed standard error loses it, and the exit status still reports the outcome.
     fn line<L: Display + Drop>(&mut self, line: L) {
-        // Where it is closed, the exit status still tells.
+        // If standard error is closed, the exit status still reports the outcome.
         let _ = self.system.eprintln(line);
     }
 }
 
+// Runs the program over the system's files, with the words that the system gives.
 fn main(rt: HostRuntime) -> ExitCode {
     // Before all else, since it takes the numbers of standard streams that are closed.
     let mut desk = RealDesk::new(Host::new(&rt));

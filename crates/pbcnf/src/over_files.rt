@@ -14,7 +14,7 @@ use pb_suite::{Diagnostics, run_program};
 use std::process::ExitCode;
 use std::rt::Env;
 
-/// A run of the program over the files of a system, with the words that the system gives.
+/// Runs the program over the files of a system, with the words that the system gives.
 pub fn run_over<R: Env + AllocGlobal, S: System + Drop, E: Diagnostics>(
     rt: &R,
     desk: &mut RealDesk<S>,
