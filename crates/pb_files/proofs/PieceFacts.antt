@@ -5,7 +5,9 @@ use Rattle.std.specs.Cmp.Derive.{both_true}
 use Rattle.std.specs.Option.{ForSome}
 use Rattle.std.specs.declared.option.Option.{Option}
 use Rattle.std.specs.declared.option.Option.TheVariants.{Some, None}
+use Rattle.std.specs.Bool.{Decides}
 use Rattle.std.proofs.lemmas.Bool.{eqb-true, false≢true, not_from_false}
+use Rattle.std.proofs.lemmas.Bool.Decides.{not_from_Decides}
 use Rattle.std.proofs.lemmas.List.{get_or-set_same, get_or-set_other}
 use Rattle.pb_desk.specs.Desk.{is_last}
 use Rattle.pb_desk.proofs.BothSlots.{differs}
@@ -32,20 +34,10 @@ with_one P Q call calls calls' is more has = subst (λ (o : Option (List Call)).
 pub both_of : (P Q : List Call → Type 0) (calls : Option (List Call)) → ForSome calls P → ForSome calls Q → ForSome calls (λ cs. P cs × Q cs)
 both_of P Q calls p q = λ cs is. (p cs is, q cs is)
 
--- the mark of a slot after one was set
-pub mark_set : (marks : List Bool) (slot place : ℕ) (b : Bool) (old : Bool) → slot < length marks → old ≡ marked marks place → cond (place == slot) b old ≡ marked (set marks slot b) place
-mark_set marks slot place b old low is = by_test (place == slot) refl
-  where
-    by_test : (same : Bool) → (place == slot) ≡ same → cond (place == slot) b old ≡ marked (set marks slot b) place
-    by_test true e = simp e (sym (ap (λ (n : ℕ). get_or (set marks slot b) n false) (eqb-true place slot e) ∙ get_or-set_same marks slot b false low))
-    by_test false e = simp e (is ∙ sym (get_or-set_other marks slot place b false (λ at. cc (eq-eqb place slot at))))
-
-pub mark_set_from : (marks : List Bool) (slot place : ℕ) (b : Bool) (old : Bool) → slot < length marks → old ≡ marked marks place → cond (slot == place) b old ≡ marked (set marks slot b) place
-mark_set_from marks slot place b old low is = by_test (slot == place) refl
-  where
-    by_test : (same : Bool) → (slot == place) ≡ same → cond (slot == place) b old ≡ marked (set marks slot b) place
-    by_test true e = simp e (sym (ap (λ (n : ℕ). get_or (set marks slot b) n false) (sym (eqb-true slot place e)) ∙ get_or-set_same marks slot b false low))
-    by_test false e = simp e (is ∙ sym (get_or-set_other marks slot place b false (λ at. cc (eq-eqb slot place (sym at)))))
+-- the mark of a place after one was set, by any test that tells whether it is the one
+pub mark_set : (marks : List Bool) (slot place : ℕ) (b old same : Bool) → Decides same (place ≡ slot) → slot < length marks → old ≡ marked marks place → cond same b old ≡ marked (set marks slot b) place
+mark_set marks slot place b old true is_same low is = sym (ap (λ (n : ℕ). get_or (set marks slot b) n false) (is_same.0 refl) ∙ get_or-set_same marks slot b false low)
+mark_set marks slot place b old false is_same low is = is ∙ sym (get_or-set_other marks slot place b false (not_from_Decides false is_same refl))
 
 pub nil_if_none : (count : ℕ) (room : List ℕ) → count ≤ length room → is_nil (take count room) ≡ (count == 0)
 nil_if_none zero room low = refl

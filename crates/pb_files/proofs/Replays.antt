@@ -1,5 +1,6 @@
 -- What one more call shows.
 use Rattle.std.proofs.Common.{◌≡◌, ◌≤◌, ◌<◌, ℕ, Bool, true, false, List, [], ◌∷◌, length, take, refl, sym, ap, ◌∙◌, subst, arith}
+use Rattle.std.proofs.lemmas.Bool.{and_parts}
 use Rattle.std.proofs.lemmas.List.{length-take, length-take-le}
 use Rattle.std.specs.Prelude.{◌==◌, ◌&&◌, ◌||◌, nat_lt, IfSome}
 use Rattle.std.specs.Option.{option_map, option_map_or, ForSome}
@@ -63,17 +64,9 @@ module _ (files : Shelf) (reading writing : List Bool) (reads writes : ℕ) (ove
 
 -- ---- a read
 
-and_left : (a b : Bool) → (a && b) ≡ true → a ≡ true
-and_left true b e = refl
-and_left false b e = e
-
 or_right : (a b : Bool) → (a || b) ≡ true → a ≡ false → b ≡ true
 or_right true b e is = cc
 or_right false b e is = e
-
-and_right : (a b : Bool) → (a && b) ≡ true → b ≡ true
-and_right true b e = e
-and_right false b e = cc
 
 is_empty : (xs : List ℕ) → is_nil xs ≡ true → xs ≡ []
 is_empty [] e = refl
@@ -83,12 +76,12 @@ is_empty (x ∷ xs) e = cc
 next_given : (left room : List ℕ) (size count : ℕ) → size ≡ length room → count ≤ length room → is_next size left (take count room) ≡ true → Gives left count room
 next_given left room size count is_size within e =
     let so_many : length (take count room) ≡ count = length-take-le count room within in
-    let are : take count room ≡ take (length (take count room)) left = (bytes_eq-Decides (take count room) (take (length (take count room)) left)).0 (and_left _ _ e) in
+    let are : take count room ≡ take (length (take count room)) left = (bytes_eq-Decides (take count room) (take (length (take count room)) left)).0 (and_parts _ _ e).0 in
     let bytes : take count room ≡ take count left = are ∙ ap (λ (n : ℕ). take n left) so_many in
     record {
       enough = omega (arith, so_many, ap length bytes, length-take count left);
       bytes = bytes;
-      end = λ none some. is_empty left (or_right (size == 0) (is_nil left) (or_right (nat_lt 0 (length (take count room))) (size == 0 || is_nil left) (and_right _ _ e) (none_less (length (take count room)) (so_many ∙ none))) (not_none size (omega (arith, is_size, some))));
+      end = λ none some. is_empty left (or_right (size == 0) (is_nil left) (or_right (nat_lt 0 (length (take count room))) (size == 0 || is_nil left) (and_parts _ _ e).1 (none_less (length (take count room)) (so_many ∙ none))) (not_none size (omega (arith, is_size, some))));
     }
   where
     none_less : (n : ℕ) → n ≡ 0 → nat_lt 0 n ≡ false
@@ -104,4 +97,4 @@ read_gives files slot size count room calls calls' is is_size within keeps = by_
   where
     by_cases : (kept : Option (List Call)) → option_map_or (answers_as files) (with_call (read slot size (Some (take count room))) kept) true ≡ true → IfSome (option_map (told_of files) kept) (λ t. Gives (t.left slot) count room)
     by_cases None e = tt
-    by_cases (Some cs) e = next_given (left_of files cs slot) room size count is_size within (and_left _ _ e)
+    by_cases (Some cs) e = next_given (left_of files cs slot) room size count is_size within (and_parts _ _ e).0

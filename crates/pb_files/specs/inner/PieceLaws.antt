@@ -15,12 +15,6 @@ use Rattle.pb_files.specs.Calls.Call.{open_file, create, truncate, read, write, 
 use Rattle.pb_files.specs.Pieces.{reads_of, bytes_read, is_over, writes_of, is_finished, moves_pieces, gives_all, takes_all, IsByPieces}
 use Rattle.pb_files.specs.Replay.{Shelf, has_slot, is_nil, left_of, made_of}
 
-first_of : (a b : Bool) → (a && b) ≡ true → a ≡ true
-first_of a b e = (and_parts a b e).0
-
-rest_of : (a b : Bool) → (a && b) ≡ true → b ≡ true
-rest_of a b e = (and_parts a b e).1
-
 min_same : (n : ℕ) → min n n ≡ n
 min_same n = omega arith
 
@@ -75,14 +69,14 @@ few_reads files slot (create place name answer ∷ calls) moves gives = few_read
 few_reads files slot (truncate place answer ∷ calls) moves gives = few_reads files slot calls moves gives
 few_reads files slot (read place room None ∷ calls) moves gives = absurd (false≢true gives)
 few_reads files slot (read place room (Some bytes) ∷ calls) moves gives =
-    by_test (slot == place) refl (few_reads files slot calls (rest_of (nat_le 65536 room && not (is_over place calls)) (moves_pieces calls) moves)
-    (rest_of (length bytes == min room (length (left_of files calls place))) (gives_all files calls) gives))
+    by_test (slot == place) refl (few_reads files slot calls (and_parts (nat_le 65536 room && not (is_over place calls)) (moves_pieces calls) moves).1
+    (and_parts (length bytes == min room (length (left_of files calls place))) (gives_all files calls) gives).1)
   where
     asked : (nat_le 65536 room ≡ true) × (not (is_over place calls) ≡ true)
-    asked = and_parts (nat_le 65536 room) (not (is_over place calls)) (first_of (nat_le 65536 room && not (is_over place calls)) (moves_pieces calls) moves)
+    asked = and_parts (nat_le 65536 room) (not (is_over place calls)) (and_parts (nat_le 65536 room && not (is_over place calls)) (moves_pieces calls) moves).0
 
     all : length bytes ≡ min room (length (left_of files calls place))
-    all = eqb-true (length bytes) (min room (length (left_of files calls place))) (first_of (length bytes == min room (length (left_of files calls place))) (gives_all files calls) gives)
+    all = eqb-true (length bytes) (min room (length (left_of files calls place))) (and_parts (length bytes == min room (length (left_of files calls place))) (gives_all files calls) gives).0
 
     here : slot ≡ place → 65536 * reads_of slot calls ≤ bytes_read slot calls + spare (is_over slot calls) (left_of files calls slot) * 65536
         → 65536 * suc (reads_of slot calls) ≤ (bytes_read slot calls + length bytes) + spare (is_nil bytes) (drop (length bytes) (left_of files calls place)) * 65536
@@ -95,7 +89,7 @@ few_reads files slot (read place room (Some bytes) ∷ calls) moves gives =
         + spare (is_over slot (read place room (Some bytes) ∷ calls)) (left_of files (read place room (Some bytes) ∷ calls) slot) * 65536
     by_test true is further = simp is (here (eqb-true slot place is) further)
     by_test false is further = simp is further
-few_reads files slot (write place piece answer ∷ calls) moves gives = few_reads files slot calls (rest_of _ (moves_pieces calls) moves) gives
+few_reads files slot (write place piece answer ∷ calls) moves gives = few_reads files slot calls (and_parts _ (moves_pieces calls) moves).1 gives
 few_reads files slot (sync place answer ∷ calls) moves gives = few_reads files slot calls moves gives
 few_reads files slot (say piece answer ∷ calls) moves gives = few_reads files slot calls moves gives
 
@@ -165,13 +159,13 @@ few_writes slot (truncate place (Some e) ∷ create made name (Some id) ∷ call
         + last_one (is_finished slot (truncate place (Some e) ∷ create made name (Some id) ∷ calls)) * 65473
     by_test true is further = simp is (omega arith)
     by_test false is further = simp is further
-few_writes slot (read place room answer ∷ calls) moves takes = few_writes slot calls (rest_of _ (moves_pieces calls) moves) takes
+few_writes slot (read place room answer ∷ calls) moves takes = few_writes slot calls (and_parts _ (moves_pieces calls) moves).1 takes
 few_writes slot (write place piece None ∷ calls) moves takes = absurd (false≢true takes)
 few_writes slot (write place piece (Some count) ∷ calls) moves takes =
-    by_test (place == slot) refl (few_writes slot calls (rest_of (has_slot place (made_of calls) && not (is_finished place calls)) (moves_pieces calls) moves) (rest_of (count == length piece) (takes_all calls) takes))
+    by_test (place == slot) refl (few_writes slot calls (and_parts (has_slot place (made_of calls) && not (is_finished place calls)) (moves_pieces calls) moves).1 (and_parts (count == length piece) (takes_all calls) takes).1)
   where
     asked : (has_slot place (made_of calls) ≡ true) × (not (is_finished place calls) ≡ true)
-    asked = and_parts (has_slot place (made_of calls)) (not (is_finished place calls)) (first_of (has_slot place (made_of calls) && not (is_finished place calls)) (moves_pieces calls) moves)
+    asked = and_parts (has_slot place (made_of calls)) (not (is_finished place calls)) (and_parts (has_slot place (made_of calls) && not (is_finished place calls)) (moves_pieces calls) moves).0
 
     here : place ≡ slot → 65473 * writes_of slot calls ≤ length (bytes_in slot (made_of calls)) + last_one (is_finished slot calls) * 65473
         → 65473 * suc (writes_of slot calls) ≤ length (bytes_in slot (appended place (take count piece) (made_of calls))) + last_one (is_last piece count) * 65473
@@ -180,7 +174,7 @@ few_writes slot (write place piece (Some count) ∷ calls) moves takes =
         subst (λ (b : Bool). 65473 * writes_of slot calls ≤ length (bytes_in slot (made_of calls)) + last_one b * 65473) (ap (λ (n : ℕ). is_finished n calls) (sym is) ∙ not-true (is_finished place calls) asked.1) further in
         subst (λ (bs : List ℕ). 65473 * suc (writes_of slot calls) ≤ length bs + last_one (is_last piece count) * 65473)
         (sym (ap (λ (n : ℕ). bytes_in n (appended place (take count piece) (made_of calls))) (sym is) ∙ bytes_there place (take count piece) (made_of calls) asked.0))
-        (write_more (writes_of slot calls) count piece (bytes_in place (made_of calls)) (eqb-true count (length piece) (first_of (count == length piece) (takes_all calls) takes))
+        (write_more (writes_of slot calls) count piece (bytes_in place (made_of calls)) (eqb-true count (length piece) (and_parts (count == length piece) (takes_all calls) takes).0)
         (omega (arith, before, ap (λ (n : ℕ). length (bytes_in n (made_of calls))) is)))
 
     by_test : (same : Bool) → (place == slot) ≡ same → 65473 * writes_of slot calls ≤ length (bytes_in slot (made_of calls)) + last_one (is_finished slot calls) * 65473

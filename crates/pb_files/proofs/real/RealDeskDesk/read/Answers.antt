@@ -3,6 +3,7 @@ use Rattle.std.specs.Prelude.{◌==◌, cond, slice_set}
 use Rattle.std.specs.Option.{ForSome, option_map_or}
 use Rattle.std.specs.declared.option.Option.{Option}
 use Rattle.std.specs.declared.option.Option.TheVariants.{Some, None}
+use Rattle.std.proofs.lemmas.Bool.Decides.{Decides-eqb}
 use Rattle.pb_files.specs.Asked.{marked}
 use Rattle.pb_files.specs.Calls.{Call, answered}
 use Rattle.pb_files.specs.Calls.Call.{create, truncate, read, write, sync}
@@ -26,7 +27,7 @@ invariant_of-self g c =
           (λ cs both. reads_piece slot (length c.args.room.now) (Some bytes) cs c.requires.whole (both.0 ∙ c.requires.not_ended) both.1)
           (both_of (λ cs. is_over slot cs ≡ marked desk.over slot) (λ cs. moves_pieces cs ≡ true) old (desk.at_ends slot c.requires.open) desk.moves);
       at_ends = λ place is_open. with_one (λ cs. is_over place cs ≡ marked desk.over place) (λ cs. is_over place cs ≡ marked (slice_set desk.over slot (count == 0)) place) call old new c.in-Ok.ensures.asked
-          (λ cs is. ap (λ (b : Bool). cond (place == slot) b (is_over place cs)) (nil_if_none count c.read.new.room c.in-Ok.ensures.count) ∙ mark_set desk.over slot place (count == 0) (is_over place cs) (omega arith) is)
+          (λ cs is. ap (λ (b : Bool). cond (place == slot) b (is_over place cs)) (nil_if_none count c.read.new.room c.in-Ok.ensures.count) ∙ mark_set desk.over slot place (count == 0) (is_over place cs) (place == slot) (Decides-eqb place slot) (omega arith) is)
           (desk.at_ends place is_open);
       at_lasts = λ place is_open. with_one (λ cs. is_finished place cs ≡ marked desk.finished place) (λ cs. is_finished place cs ≡ marked desk.finished place) call old new c.in-Ok.ensures.asked (λ cs is. is) (desk.at_lasts place is_open);
       has_file = λ place is_open. with_one (λ cs. has_slot place (made_of cs) ≡ true) (λ cs. has_slot place (made_of cs) ≡ true) call old new c.in-Ok.ensures.asked (λ cs is. is) (desk.has_file place is_open);

@@ -1,15 +1,20 @@
 use Rattle.std.proofs.Common.{◌≡◌, ◌<◌, ℕ, Bool, List, ◌∷◌, length, refl, sym, ap, ◌∙◌, arith, rules}
 use Rattle.std.specs.Prelude.{◌==◌, cond, slice_set}
 use Rattle.std.specs.declared.option.Option.TheVariants.{Some, None}
+use Rattle.std.specs.Bool.{Decides}
 use Rattle.std.proofs.lemmas.Bool.{eqb-false}
+use Rattle.std.proofs.lemmas.Bool.Decides.{Decides-eqb}
 use Rattle.pb_desk.specs.Desk.{is_last}
 use Rattle.pb_desk.proofs.LastPieces.{some_left}
 use Rattle.pb_files.specs.Calls.{with_call}
 use Rattle.pb_files.specs.Calls.Call.{write}
 use Rattle.pb_files.specs.Pieces.{is_finished}
-use Rattle.pb_files.proofs.PieceFacts.{mark_set_from, mark_stays, write_ends, write_lasts, write_moves}
+use Rattle.pb_files.proofs.PieceFacts.{mark_set, mark_stays, write_ends, write_lasts, write_moves}
 use Rattle.pb_files.proofs.Replays.{still_has, write_fails, write_reaches}
 use Rattle.pb_files.proofs.real.RealDeskDesk.write.Goals as goal
+
+is_same : (slot place : ℕ) → Decides (slot == place) (place ≡ slot)
+is_same slot place = (λ e. sym ((Decides-eqb slot place).0 e), λ e. (Decides-eqb slot place).1 (sym e))
 
 pub invariant_of-self : goal.invariant_of-self
 invariant_of-self g c =
@@ -37,7 +42,7 @@ invariant_of-self-in-Ok g c =
     record {
       moves = write_moves slot piece (Some c.in-Ok.count) old new is desk.finished c.requires.not_finished (desk.has_file slot c.requires.open) (desk.at_lasts slot c.requires.open) desk.moves;
       at_ends = λ place is_open. write_ends slot piece (Some c.in-Ok.count) old new is desk.over place (desk.at_ends place is_open);
-      at_lasts = λ place is_open. write_lasts slot piece (Some c.in-Ok.count) old new is desk.finished (slice_set desk.finished slot c.is_file_end.result) place (λ cs e. ap (λ (b : Bool). cond (slot == place) b (is_finished place cs)) (let same : is_last piece c.in-Ok.count ≡ c.is_file_end.result = search rules in same) ∙ mark_set_from desk.finished slot place c.is_file_end.result (is_finished place cs) (omega arith) e) (desk.at_lasts place is_open);
+      at_lasts = λ place is_open. write_lasts slot piece (Some c.in-Ok.count) old new is desk.finished (slice_set desk.finished slot c.is_file_end.result) place (λ cs e. ap (λ (b : Bool). cond (slot == place) b (is_finished place cs)) (let same : is_last piece c.in-Ok.count ≡ c.is_file_end.result = search rules in same) ∙ mark_set desk.finished slot place c.is_file_end.result (is_finished place cs) (slot == place) (is_same slot place) (omega arith) e) (desk.at_lasts place is_open);
       has_file = λ place is_open. still_has place slot piece (Some c.in-Ok.count) old new is (desk.has_file place is_open);
     }
 
