@@ -1,6 +1,7 @@
 -- A sum's diagram with its nodes' children, and which steps derive its clauses.
-use Rattle.std.proofs.Common.{◌≡◌, ◌∙◌, ℕ, Bool, true, false, cond, List, [], length, ap, sym, arith}
-use Rattle.std.specs.Prelude.{min}
+use Rattle.std.proofs.Common.{◌≡◌, ◌≤◌, ◌<◌, ◌∙◌, ℕ, Bool, true, false, cond, List, [], length, ap, sym, arith}
+use Rattle.std.specs.Prelude.{min, ◌&&◌}
+use Rattle.std.proofs.lemmas.Bool.{le-leb, lt-leb}
 use Rattle.std.proofs.lemmas.List.{length-map}
 use Rattle.pb_base.specs.declared.literal.Term.{Term}
 use Rattle.pb_norm.specs.Constraints.{weighted, weights}
@@ -45,6 +46,15 @@ module _ (m : BoundedSum) (proper : IsProper m) where
   pub plain_is : (first own next : ℕ) → is_guarded m ≡ false → diagram_steps m first own next ≡ derivation_steps m first own next
   plain_is first own next e = ap (λ (b : Bool). cond b (guarded_steps m first own next) (diagram_steps m first own next)) (sym e)
 
--- how long windows may be on average, by the terms as they are written
-pub most_is : (ts : List Term) (ls : List (List Node)) (most : ℕ) (bound : ℕ) → most ≡ min 255 (length ts) → ls ≡ nodes_in (weights ts) (levels_of (sum_within ts bound)) → are_narrow most ls ≡ is_guarded (sum_within ts bound)
-most_is ts ls most bound e same = (λ x. are_narrow ((e ∙ ap (min 255) (sym (length-map ts weighted))) x) (same x))
+-- a sum of few terms, as they are written, has no guards
+pub few_is : (ts : List Term) (bound : ℕ) → length ts < 20 → is_guarded (sum_within ts bound) ≡ false
+few_is ts bound few =
+    ap (λ (b : Bool). b && are_narrow (min 255 (length (weights ts))) (nodes_in (weights ts) (levels_of (sum_within ts bound)))) (lt-leb 20 (length (weights ts)) (omega (arith, length-map ts weighted, few)))
+
+-- how long windows may be on average in a sum of many terms
+pub most_is : (ts : List Term) (ls : List (List Node)) (most : ℕ) (bound : ℕ) → 20 ≤ length ts → most ≡ min 255 (length ts) → ls ≡ nodes_in (weights ts) (levels_of (sum_within ts bound))
+    → are_narrow most ls ≡ is_guarded (sum_within ts bound)
+most_is ts ls most bound many e same =
+    (λ x. are_narrow ((e ∙ ap (min 255) (sym (length-map ts weighted))) x) (same x))
+    ∙ sym
+    (ap (λ (b : Bool). b && are_narrow (min 255 (length (weights ts))) (nodes_in (weights ts) (levels_of (sum_within ts bound)))) (le-leb 20 (length (weights ts)) (omega (arith, length-map ts weighted, many))))

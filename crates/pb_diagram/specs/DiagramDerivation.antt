@@ -1,4 +1,4 @@
--- Which steps derive a diagram's clauses: those by guards, where levels are narrow (our own).
+-- Which steps derive a diagram's clauses: those by guards, where the sum has many terms and levels are narrow (our own).
 use Rattle.std.specs.Prelude.{ℕ, List, if◌then◌else◌}
 use Rattle.pb_norm.specs.BoundedSums.{BoundedSum}
 use Rattle.pb_steps.specs.declared.step.Step.{Step}

@@ -200,7 +200,7 @@ guarded_by (t ∷ ts) ((n ∷ ns) ∷ levels) first own next = guarded_over t ts
 abbrev pub guarded_steps : BoundedSum → ℕ → ℕ → ℕ → List Step
 guarded_steps m first own next = guarded_by m.terms (nodes_in m.terms (levels_of m)) first own next
 
--- ---- where these steps are written: few nodes at a level, and short windows, so many ids a node on average
+-- ---- where these steps are written: many terms, few nodes at a level, and short windows, so many ids a node on average
 
 abbrev pub is_narrow : ℕ → List Node → Bool
 is_narrow most ns = nat_lt (length ns) (2 ^ 14) && nat_le (windows ns) (most * length ns)
@@ -209,6 +209,7 @@ abbrev pub are_narrow : ℕ → List (List Node) → Bool
 are_narrow most [] = Bool.true
 are_narrow most (ns ∷ levels) = is_narrow most ns && are_narrow most levels
 
--- A node over its sum takes a term for each term of the sum, and a node over its children as many ids as its window.
+-- A node over its sum takes a term for each term of the sum, and a node over its children as many ids as its window. The guards of a sum of
+-- few terms take more than they save.
 abbrev pub is_guarded : BoundedSum → Bool
-is_guarded m = are_narrow (min 255 (length m.terms)) (nodes_in m.terms (levels_of m))
+is_guarded m = nat_le 20 (length m.terms) && are_narrow (min 255 (length m.terms)) (nodes_in m.terms (levels_of m))

@@ -194,6 +194,9 @@ impl Derive for Diagram {
 
     fn derive<T: StepSink>(&self, alloc: Global, first: u32, id: u64, sink: &mut T) -> SinkResult {
         let shape = self.shape();
+        if shape.terms.len() < 20 {
+            return self.derive_plainly(alloc, first, id, sink);
+        }
         let nodes = list_nodes(alloc, shape)?;
         let levels = nodes.as_slice();
         let most = 255u64.min(shape.terms.len() as u64);

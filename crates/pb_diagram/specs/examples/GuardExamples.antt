@@ -1,11 +1,11 @@
 -- Worked examples.
-use Rattle.std.specs.Prelude.{◌≡◌, ℕ, ◌+◌, List, [], ◌∷◌, map, codes, refl}
+use Rattle.std.specs.Prelude.{◌≡◌, ℕ, ◌+◌, Bool, List, [], ◌∷◌, map, codes, refl}
 use Rattle.std.specs.Fmt.{digits}
 use Rattle.pb_norm.specs.Constraints.{Weighted}
 use Rattle.pb_norm.specs.BoundedSums.{BoundedSum}
 use Rattle.pb_steps.specs.StepText.{step_line}
 use Rattle.pb_family.specs.Fresh.{positive_of}
-use Rattle.pb_diagram.specs.GuardedSteps.{guarded_steps}
+use Rattle.pb_diagram.specs.GuardedSteps.{guarded_steps, is_guarded}
 
 abbrev weighing_from : ℕ → List ℕ → List Weighted
 weighing_from v [] = []
@@ -118,3 +118,11 @@ pub one_node_lines : map step_line (guarded_steps (at_most 3 (5 ∷ 2 ∷ [])) 3
     ∷ [])
 unfolding digits
 one_node_lines = refl
+
+-- at most 17 of 19
+pub few_terms_have_no_guards : is_guarded (at_most 17 (1 ∷ 1 ∷ 1 ∷ 1 ∷ 1 ∷ 1 ∷ 1 ∷ 1 ∷ 1 ∷ 1 ∷ 1 ∷ 1 ∷ 1 ∷ 1 ∷ 1 ∷ 1 ∷ 1 ∷ 1 ∷ 1 ∷ [])) ≡ Bool.false
+few_terms_have_no_guards = refl
+
+-- at most 18 of 20
+pub twenty_terms_have_guards : is_guarded (at_most 18 (1 ∷ 1 ∷ 1 ∷ 1 ∷ 1 ∷ 1 ∷ 1 ∷ 1 ∷ 1 ∷ 1 ∷ 1 ∷ 1 ∷ 1 ∷ 1 ∷ 1 ∷ 1 ∷ 1 ∷ 1 ∷ 1 ∷ 1 ∷ [])) ≡ Bool.true
+twenty_terms_have_guards = refl

@@ -1,6 +1,6 @@
 -- The laws of a diagram's derivation, whichever it is.
 use Rattle.std.proofs.Common.{◌≡◌, ◌≤◌, ◌<◌, ◌+◌, ◌*◌, ◌^◌, ℕ, true, List, length, arith}
-use Rattle.std.specs.Prelude.{All, min}
+use Rattle.std.specs.Prelude.{All}
 use Rattle.std.proofs.lemmas.Bool.{cond_both}
 use Rattle.std.proofs.lemmas.List.Elements.{All-weaker}
 use Rattle.pb_norm.specs.BoundedSums.{BoundedSum, IsProper}
@@ -23,7 +23,7 @@ use Rattle.pb_diagram.specs.laws.DiagramDerives.{diagram_derives, diagram_lines}
 use Rattle.pb_diagram.specs.laws.DiagramShort.{diagram_sayable, diagram_short}
 use Rattle.pb_diagram.specs.laws.GuardedCounts.{guarded_lines}
 use Rattle.pb_diagram.specs.laws.GuardedDerives.{guarded_derives}
-use Rattle.pb_diagram.specs.laws.GuardedShort.{narrow_from, guarded_sayable, guarded_short}
+use Rattle.pb_diagram.specs.laws.GuardedShort.{narrow_of, guarded_sayable, guarded_short}
 
 module _ (m : BoundedSum) (proper : IsProper m) where
   -- what holds of both holds of the one that is written
@@ -34,7 +34,7 @@ module _ (m : BoundedSum) (proper : IsProper m) where
   derivation_derives light first below own db ready =
       either (λ ss. Derives db ss (diagram_clauses m first) (first + diagram_fresh m)) first own db.next
       (λ guarded. guarded_derives m proper light
-      (All-weaker (λ (ns : List Node). (length ns < 2 ^ 14) × (windows ns ≤ 255 * length ns)) (λ (ns : List Node). length ns < 2 ^ 20) (λ ns h. omega (arith, h.0)) (nodes_in m.terms (levels_of m)) (narrow_from (min 255 (length m.terms)) (omega arith) (nodes_in m.terms (levels_of m)) guarded))
+      (All-weaker (λ (ns : List Node). (length ns < 2 ^ 14) × (windows ns ≤ 255 * length ns)) (λ (ns : List Node). length ns < 2 ^ 20) (λ ns h. omega (arith, h.0)) (nodes_in m.terms (levels_of m)) (narrow_of m guarded))
       first below own db ready)
       (diagram_derives m proper light first below own db ready)
 

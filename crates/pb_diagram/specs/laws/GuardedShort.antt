@@ -202,13 +202,20 @@ module _ (t : Weighted) (ts : List Weighted) (n : Node) (levels : List (List Nod
 abbrev Narrow : List Node → Type 0
 Narrow ns = (length ns < 2 ^ 14) × (windows ns ≤ 255 * length ns)
 
-pub narrow_from : (most : ℕ) → most ≤ 255 → (levels : List (List Node)) → are_narrow most levels ≡ true → All (λ ns. (length ns < 2 ^ 14) × (windows ns ≤ 255 * length ns)) levels
+narrow_from : (most : ℕ) → most ≤ 255 → (levels : List (List Node)) → are_narrow most levels ≡ true → All (λ ns. (length ns < 2 ^ 14) × (windows ns ≤ 255 * length ns)) levels
 narrow_from most le [] e = All-nil Narrow
 narrow_from most le (ns ∷ levels) e =
     let parts = and_parts (is_narrow most ns) (are_narrow most levels) e in
     let here = and_parts (ltb (length ns) (2 ^ 14)) (leb (windows ns) (most * length ns)) parts.0 in
     let more : most * length ns ≤ 255 * length ns = mul-le-mul_right (length ns) le in
     All-cons Narrow ns levels (ltb-true (length ns) (2 ^ 14) here.0, omega (arith, leb-true (windows ns) (most * length ns) here.1, more)) (narrow_from most le levels parts.1)
+
+-- the levels of a sum that is derived by guards
+pub narrow_of : (m : BoundedSum) → is_guarded m ≡ true → All (λ ns. (length ns < 2 ^ 14) × (windows ns ≤ 255 * length ns)) (nodes_in m.terms (levels_of m))
+narrow_of m guarded =
+    let n : ℕ = length m.terms in
+    let levels : List (List Node) = nodes_in m.terms (levels_of m) in
+    narrow_from (min 255 n) (omega arith) levels (and_parts (leb 20 n) (are_narrow (min 255 n) levels) guarded).1
 
 -- the sum's terms and levels, and where the derivation starts
 pub record MayWrite (ts : List Weighted) (levels : List (List Interval)) (bound first own next : ℕ) : Type 0 where
@@ -268,7 +275,7 @@ module _ (m : BoundedSum) (proper : IsProper m) (light : weight m.terms < 2 ^ 10
     original = original;
     light = omega (arith, light);
     positive = proper.positive;
-    narrow = narrow_from (min 255 (length m.terms)) (omega arith) (nodes_in m.terms (levels_of m)) guarded;
+    narrow = narrow_of m guarded;
     start = start;
   }
 

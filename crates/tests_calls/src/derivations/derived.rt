@@ -36,6 +36,11 @@ const EIGHTS: &str = "+8 ~x1 +8 ~x2 +8 ~x3 +5 ~x4 >= 17 ;";
 // At most 2 of 4.
 const NEAR: &str = "+1 x1 +2 ~x2 +1 x3 >= 2 ;";
 
+// At most 34 of 36, with enough terms for a diagram's guards.
+const TWENTY: &str =
+    "+2 x1 +2 ~x2 +2 x3 +2 ~x4 +2 x5 +2 ~x6 +2 x7 +2 ~x8 +2 x9 +2 ~x10 +2 x11 +2 ~x12 \
++2 x13 +2 ~x14 +2 x15 +2 ~x16 +1 x17 +1 ~x18 +1 x19 +1 ~x20 >= 2 ;";
+
 // What `report` says of a derivation without other statements, whose fresh variables come right after those of the text.
 fn report_of(alloc: Global, kind: Kind, opb: &str) -> Option<String> {
     let vars = read_opb(alloc, opb.as_bytes()).ok()?.vars;
@@ -64,11 +69,13 @@ const CASES: &[(Kind, &str, &str)] = &[
     // No clause has need of what says nothing of an output, nor of what an output of the root below the last one means where it is true.
     (Kind::Totalizer, FOUR, "81: 12 19 0 0"),
     (Kind::Totalizer, FIVE, "124: 18 28 0 0"),
-    (Kind::Diagram, FALLING, "33: 5 4 0 0"),
-    (Kind::Diagram, MEETING, "52: 6 7 0 0"),
-    (Kind::Diagram, MIXED, "59: 8 9 0 0"),
-    (Kind::Diagram, GREAT, "33: 5 4 0 0"),
-    (Kind::Diagram, NEAR, "33: 5 4 0 0"),
+    (Kind::Diagram, FALLING, "22: 3 3 0 0"),
+    (Kind::Diagram, MEETING, "34: 5 5 0 0"),
+    (Kind::Diagram, MIXED, "39: 6 6 0 0"),
+    (Kind::Diagram, GREAT, "22: 3 3 0 0"),
+    (Kind::Diagram, NEAR, "22: 3 3 0 0"),
+    // What deletes a guard is needed: the guards of all levels are one variable.
+    (Kind::Diagram, TWENTY, "221: 24 25 0 0"),
     // No clause has need of what an output of the root below the last one means where it is true.
     (Kind::Tree, FALLING, "49: 8 12 0 0"),
     (Kind::Tree, GREAT, "49: 8 12 0 0"),

@@ -95,21 +95,28 @@ fn draw_weighted_kind(state: &mut u32) -> Kind {
     }
 }
 
-// True if a derivation is accepted, and without a drawn line only if that deletes. (What deletes a diagram's guard is needed, too: the
-// guards of all levels are one variable.)
-fn is_accepted_whole(alloc: Global, state: &mut u32, opb: &str, files: &Files) -> Option<bool> {
+// True if a derivation by a family is accepted, and without a drawn line if and only if that deletes. (What deletes a diagram's guard may be
+// needed, too: the guards of all levels are one variable.)
+fn is_accepted_whole(
+    alloc: Global,
+    state: &mut u32,
+    kind: Kind,
+    opb: &str,
+    files: &Files,
+) -> Option<bool> {
     let proof = files.proof.as_str();
     let whole = is_accepted(alloc, opb, files.cnf.as_str(), proof)?;
     let place = (draw(state) as usize).checked_rem(proof.lines().count())?;
     let deletes = proof.lines().nth(place)?.starts_with("del ");
     let broken = is_accepted_with(alloc, opb, files, place, "*")?;
-    Some(whole && (deletes || !broken))
+    let is_expected = broken == deletes || deletes && matches!(kind, Kind::Diagram);
+    Some(whole && is_expected)
 }
 
 // The same of a sum's derivation by a family.
 fn is_derived(alloc: Global, state: &mut u32, kind: Kind, sum: Sum) -> Option<bool> {
     let files = made(alloc, kind, sum)?;
-    is_accepted_whole(alloc, state, sum.opb, &files)
+    is_accepted_whole(alloc, state, kind, sum.opb, &files)
 }
 
 // True if that is so of the next sum without weights.
@@ -187,5 +194,24 @@ fn is_large_derived(alloc: Global) -> Option<bool> {
 #[test]
 fn a_large_totalizer_is_derived(rt: HostRuntime) {
     let derived = is_large_derived(rt.alloc());
+    assert!(rt; derived == Some(true), "{derived:?}");
+}
+
+// True if that is so of 20 weights by a diagram, which are enough for guards.
+fn is_guarded_derived(alloc: Global) -> Option<bool> {
+    let mut state: u32 = 1;
+    let opb = draw_weights(alloc, &mut state, 20, 1)?;
+    let sum = Sum {
+        opb: opb.as_str(),
+        first: 21,
+        loaded: 1,
+        budget: 1000,
+    };
+    is_derived(alloc, &mut state, Kind::Diagram, sum)
+}
+
+#[test]
+fn a_diagram_of_many_terms_is_derived(rt: HostRuntime) {
+    let derived = is_guarded_derived(rt.alloc());
     assert!(rt; derived == Some(true), "{derived:?}");
 }
