@@ -59,7 +59,7 @@ module _ (o : CommandSpec) (a b d : DeskState) (goes : Goes (length o.texts) not
   answers_after _ (refused answer is due adds) = refused answer is (shelf_was_if a b goes (λ shelf. o.stops shelf answer) due) (adds_after nothing a b d goes adds)
   answers_after _ (read_fault adds) = read_fault (adds_after nothing a b d goes adds)
   answers_after _ (write_fault out part adds) = write_fault out (shelf_was_if a b goes (λ shelf. MayStand o shelf out) part) (adds_after out a b d goes adds)
-  answers_after _ (no_memory out part adds held) = no_memory out (shelf_was_if a b goes (λ shelf. MayStand o shelf out) part) (adds_after out a b d goes adds) (held_after out held)
+  answers_after _ (no_memory out part adds held silent) = no_memory out (shelf_was_if a b goes (λ shelf. MayStand o shelf out) part) (adds_after out a b d goes adds) (held_after out held) silent
 
   quiet_after : IsQuiet b d → IsQuiet a d
   quiet_after quiet = record { reads = quiet.reads ∙ goes.reads; writes = quiet.writes ∙ goes.writes }

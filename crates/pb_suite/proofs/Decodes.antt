@@ -96,7 +96,7 @@ ends_saying o a b t line is due _ (all_done out has adds keeps) = done (subst (�
 ends_saying o a b t line is due answer (refused _ refusal stops adds) = absurd (due.goes_on answer (in_told a t (λ u. o.stops u.shelf answer) is stops))
 ends_saying o a b t line is due _ (not_read adds) = read_fault adds
 ends_saying o a b t line is due _ (unwritten out part adds) = write_fault
-ends_saying o a b t line is due _ (wanting out part adds held) = no_memory
+ends_saying o a b t line is due _ (wanting out part adds held silent) = no_memory
 
 pub obeyed_says : (w : DecodeWords) (a b : DeskState) (answer : Outcome) → Implements (decode_spec w) a b answer → IfTold a (SaidOf w a b answer)
 obeyed_says w a b answer implements = by_told a.view.told refl

@@ -17,7 +17,7 @@ module _ (o : CommandSpec) (a b : DeskState) where
   by_output _ is (refused answer refusal due adds) = absurd (subst (IsRefusal o.texts) is refusal)
   by_output _ is (read_fault adds) = cc
   by_output _ is (write_fault out part adds) = cc
-  by_output _ is (no_memory out part adds held) = cc
+  by_output _ is (no_memory out part adds held silent) = cc
 
   -- what follows of the texts alone
   pub done_so : (P : Told → Type 0) → ((t : Told) (out : Output) → o.done t.shelf out → P t) → (answer : Outcome) → answer ≡ outcome.Done → Implements o a b answer → IfTold a P

@@ -72,11 +72,11 @@ module _ (o : CommandSpec) (a b : DeskState) where
       let no_write = refusal_no_write o.texts answer is in
       record { answers = refused answer is due goes.adds; opens = goes.reading; counts = counts_quiet a b answer no_read no_write (quiet_of nothing goes); unsettled = λ e. absurd (no_read e); no_text = λ steady e. absurd (no_read e); no_space = λ steady e. absurd (no_write e) }
 
-  pub wants_memory : (out : Output) → Goes (length o.texts) out a b → IfTold a (λ t. MayStand o t.shelf out) → Implements o a b outcome.NoMemory
-  wants_memory out goes part = record { answers = no_memory out part goes.adds (well goes.writes); opens = goes.reading; counts = counts_quiet a b outcome.NoMemory (λ e. cc) (λ e. cc) (quiet_of out goes); unsettled = λ e. cc; no_text = λ steady e. cc; no_space = λ steady e. cc }
+  pub wants_memory : (out : Output) → Goes (length o.texts) out a b → IfTold a (λ t. MayStand o t.shelf out) → out.said ≡ [] → Implements o a b outcome.NoMemory
+  wants_memory out goes part silent = record { answers = no_memory out part goes.adds (well goes.writes) silent; opens = goes.reading; counts = counts_quiet a b outcome.NoMemory (λ e. cc) (λ e. cc) (quiet_of out goes); unsettled = λ e. cc; no_text = λ steady e. cc; no_space = λ steady e. cc }
 
   pub bare_memory : Goes (length o.texts) nothing a b → Implements o a b outcome.NoMemory
-  bare_memory goes = wants_memory nothing goes (always a (λ t. MayStand o t.shelf nothing) (λ t. inl refl))
+  bare_memory goes = wants_memory nothing goes (always a (λ t. MayStand o t.shelf nothing) (λ t. inl refl)) refl
 
   pub is_unread : (f : View → View) → AddsBy (length o.texts) nothing f → FailsToRead f a b → (IsSteady a → LacksText o a) → IsOpenIn o b → Implements o a b outcome.ReadFault
   is_unread f by fails lacks unsettled = record {
@@ -99,9 +99,9 @@ module _ (o : CommandSpec) (a b : DeskState) where
   }
 
   -- memory was wanting, and what was held could not be written
-  pub is_unheld : (out : Output) (f : View → View) → AddsBy (length o.texts) out f → out.made ≢ [] → FailsToWrite f a b → IfTold a (λ t. MayStand o t.shelf out) → (IsSteady a → LacksSpace o a) → Implements o a b outcome.NoMemory
-  is_unheld out f by some fails part lacks = record {
-    answers = no_memory out part (adds_by out f a b by fails.view) (cut_off some lacks);
+  pub is_unheld : (out : Output) (f : View → View) → AddsBy (length o.texts) out f → out.made ≢ [] → FailsToWrite f a b → IfTold a (λ t. MayStand o t.shelf out) → (IsSteady a → LacksSpace o a) → out.said ≡ [] → Implements o a b outcome.NoMemory
+  is_unheld out f by some fails part lacks silent = record {
+    answers = no_memory out part (adds_by out f a b by fails.view) (cut_off some lacks) silent;
     opens = λ slot le. ap (λ (v : View). v.reading slot) fails.view ∙ by.reading a.view slot le;
     counts = (fails.reads, inr fails.writes);
     unsettled = λ e. cc;

@@ -20,14 +20,14 @@ module _ (o : CommandSpec) (a b : DeskState) where
   not_usage _ (refused answer is due adds) e = subst (IsRefusal o.texts) e is
   not_usage _ (read_fault adds) e = cc
   not_usage _ (write_fault out part adds) e = cc
-  not_usage _ (no_memory out part adds held) e = cc
+  not_usage _ (no_memory out part adds held silent) e = cc
 
   pub all_ended : IsClosed a → (answer : Outcome) → Answers o a b answer → answer ≡ outcome.Done → (slot : ℕ) → b.view.writing slot ≡ false
   all_ended closed _ (done out due adds stays) e slot = stays slot ∙ closed.writing slot
   all_ended closed _ (refused answer is due adds) e slot = absurd (subst (IsRefusal o.texts) e is)
   all_ended closed _ (read_fault adds) e slot = cc
   all_ended closed _ (write_fault out part adds) e slot = cc
-  all_ended closed _ (no_memory out part adds held) e slot = cc
+  all_ended closed _ (no_memory out part adds held silent) e slot = cc
 
 -- ---- of a desk that is seen from its end, whose counts are not hidden
 

@@ -56,12 +56,12 @@ module _ (o : CommandSpec) (name text summary : List ℕ) (Fine : Type 0) (b d :
   file_stops is why (making_in n fails) = is_unwritten o b d _ (begun 0 name (take n text)) (by_begun (length o.texts) name (take n text)) fails (file_part n is) (lacks is (λ steady. lacks_file (why steady)))
 
   pub file_wants : Fine → LeavesPart 0 name text b d → Implements o b d outcome.NoMemory
-  file_wants is (left n reached) = wants_memory o b d _ (goes_by (length o.texts) _ (begun 0 name (take n text)) b d (by_begun (length o.texts) name (take n text)) reached) (file_part n is)
-  file_wants is (cut_off n fails why) = is_unheld o b d _ (begun 0 name (take n text)) (by_begun (length o.texts) name (take n text)) (λ e. cc) fails (file_part n is) (lacks is (λ steady. lacks_file (why steady)))
+  file_wants is (left n reached) = wants_memory o b d _ (goes_by (length o.texts) _ (begun 0 name (take n text)) b d (by_begun (length o.texts) name (take n text)) reached) (file_part n is) refl
+  file_wants is (cut_off n fails why) = is_unheld o b d _ (begun 0 name (take n text)) (by_begun (length o.texts) name (take n text)) (λ e. cc) fails (file_part n is) (lacks is (λ steady. lacks_file (why steady))) refl
 
   -- the file was made, and no word was said
   pub words_want : Fine → Reaches (made 0 name text) b d → Implements o b d outcome.NoMemory
-  words_want is far = wants_memory o b d _ (goes_by (length o.texts) _ (made 0 name text) b d (by_made (length o.texts) name text) far) (words_part 0 is)
+  words_want is far = wants_memory o b d _ (goes_by (length o.texts) _ (made 0 name text) b d (by_made (length o.texts) name text) far) (words_part 0 is) refl
 
   pub words_stop : Fine → (n : ℕ) → FailsToWrite (spoken (take n summary)) b d → (IsSteady b → LacksRoom words (length summary) b) → Implements o b d outcome.WriteFault
   words_stop is n fails why = is_unwritten o b d _ (spoken (take n summary)) (by_spoken (length o.texts) name text (take n summary)) fails (words_part n is) (lacks is (λ steady. no_words (why steady)))

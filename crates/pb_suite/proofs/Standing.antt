@@ -151,7 +151,7 @@ module _ (w : EncodeWords) (a b : DeskState) where
   answers_stand _ (refused answer is due adds) = told_stands a.view.told b.view.told nothing bare_may adds.told
   answers_stand _ (read_fault adds) = told_stands a.view.told b.view.told nothing bare_may adds.told
   answers_stand _ (write_fault out part adds) = told_stands a.view.told b.view.told out part adds.told
-  answers_stand _ (no_memory out part adds held) = told_stands a.view.told b.view.told out part adds.told
+  answers_stand _ (no_memory out part adds held silent) = told_stands a.view.told b.view.told out part adds.told
 
   pub obeyed_stands : (answer : Outcome) → Implements (encode_spec w) a b answer → IfTold a (λ t. IsTold b (Stands w t))
   obeyed_stands answer implements = answers_stand answer implements.answers

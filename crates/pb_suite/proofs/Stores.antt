@@ -115,19 +115,19 @@ module _ (o : CommandSpec) (options : Options) (p : Problem) (names : FileNames)
       is_unwritten o b d _ both (by_begun_proof (length o.texts) name cnf proof (take n derivation)) (then_fails_to_write (made 0 name cnf) (begun 1 proof (take n derivation)) both b between d (λ v. refl) made_is fails) (proof_part proof n named is) (lacks is why)
 
   cnf_wants : IsEncodable options p → LeavesPart 0 name cnf b d → Implements o b d outcome.NoMemory
-  cnf_wants is (left n reached) = wants_memory o b d _ (goes_by (length o.texts) _ (begun 0 name (take n cnf)) b d (by_begun (length o.texts) name (take n cnf)) reached) (cnf_part n is)
-  cnf_wants is (cut_off n fails why) = is_unheld o b d _ (begun 0 name (take n cnf)) (by_begun (length o.texts) name (take n cnf)) (λ e. cc) fails (cnf_part n is) (lacks is (λ steady. to_make (for_cnf (why steady))))
+  cnf_wants is (left n reached) = wants_memory o b d _ (goes_by (length o.texts) _ (begun 0 name (take n cnf)) b d (by_begun (length o.texts) name (take n cnf)) reached) (cnf_part n is) refl
+  cnf_wants is (cut_off n fails why) = is_unheld o b d _ (begun 0 name (take n cnf)) (by_begun (length o.texts) name (take n cnf)) (λ e. cc) fails (cnf_part n is) (lacks is (λ steady. to_make (for_cnf (why steady)))) refl
 
   proof_wants : IsEncodable options p → (proof : List ℕ) (between : DeskState) → names.proof ≡ Some proof → Reaches (made 0 name cnf) b between → LeavesPart 1 proof derivation between d → Implements o b d outcome.NoMemory
   proof_wants is proof between named made_is (left n reached) =
       let text = take n derivation in
       let both : View → View = λ v. begun 1 proof text (made 0 name cnf v) in
-      wants_memory o b d _ (goes_by (length o.texts) _ both b d (by_begun_proof (length o.texts) name cnf proof text) (then (made 0 name cnf) (begun 1 proof text) both b between d (λ v. refl) made_is reached)) (proof_part proof n named is)
+      wants_memory o b d _ (goes_by (length o.texts) _ both b d (by_begun_proof (length o.texts) name cnf proof text) (then (made 0 name cnf) (begun 1 proof text) both b between d (λ v. refl) made_is reached)) (proof_part proof n named is) refl
   proof_wants is proof between named made_is (cut_off n fails why) =
       let text = take n derivation in
       let both : View → View = λ v. begun 1 proof text (made 0 name cnf v) in
       is_unheld o b d _ both (by_begun_proof (length o.texts) name cnf proof text) (λ e. cc) (then_fails_to_write (made 0 name cnf) (begun 1 proof text) both b between d (λ v. refl) made_is fails) (proof_part proof n named is)
-      (lacks is (λ steady. to_make (proof_lacks options p names b between proof named made_is (why (ap (λ (v : View). v.steady) made_is.view ∙ steady)))))
+      (lacks is (λ steady. to_make (proof_lacks options p names b between proof named made_is (why (ap (λ (v : View). v.steady) made_is.view ∙ steady))))) refl
 
   stopped_implements : (answer : Outcome) → StopsStoring options p names b d answer → (IsSteady b → answer ≡ outcome.WriteFault → LacksToStore options p names b) → Implements o b d answer
   stopped_implements _ (storing_over which is far) why = is_refused o b d (outcome.Limit None which None) (goes_by (length o.texts) nothing same b d (by_same (length o.texts)) far) tt (stops which is)
@@ -137,7 +137,7 @@ module _ (o : CommandSpec) (options : Options) (p : Problem) (names : FileNames)
   stopped_implements _ (no_memory (wanting_not far)) why = bare_memory o b d (goes_by (length o.texts) nothing same b d (by_same (length o.texts)) far)
   stopped_implements _ (no_memory (wants_in_cnf is part)) why = cnf_wants is part
   stopped_implements _ (no_memory (wants_in_proof is later)) why = proof_wants is later.proof later.between later.named later.whole later.ends
-  stopped_implements _ (no_words is far) why = wants_memory o b d _ (goes_by (length o.texts) _ (made_files options p names) b d (by_files options p (length o.texts) names) far) (words_part 0 is)
+  stopped_implements _ (no_words is far) why = wants_memory o b d _ (goes_by (length o.texts) _ (made_files options p names) b d (by_files options p (length o.texts) names) far) (words_part 0 is) refl
 
   pub storing_implements : ((slot : ℕ) → b.view.writing slot ≡ false) → (answer : Outcome) → EndsStoring options p names b d answer → Implements o b d answer
   storing_implements free _ (all_stored is far) = stored_implements is far free

@@ -37,13 +37,13 @@ pub data WritesHeld (o : CommandSpec) (out : Output) (old new : DeskState) : Typ
   well : new.write_faults ≡ old.write_faults → WritesHeld o out old new
   cut_off : out.made ≢ [] → (IsSteady old → LacksSpace o old) → WritesHeld o out old new
 
--- Over every desk, telling or not: all that is due was made and said, and the writing slots are as before; or the due refusal is told, or a read failed, and nothing was added; or a write failed, or memory was wanting, and a first part was added.
+-- Over every desk, telling or not: all that is due was made and said, and the writing slots are as before; or the due refusal is told, or a read failed, and nothing was added; or a write failed, or memory was wanting before a word was said, and a first part was added.
 pub data Answers (o : CommandSpec) (old new : DeskState) : Outcome → Type 0 where
   done : (out : Output) → IfTold old (λ t. o.done t.shelf out) → Adds out old new → ((slot : ℕ) → new.view.writing slot ≡ old.view.writing slot) → Answers o old new outcome.Done
   refused : (answer : Outcome) → IsRefusal o.texts answer → IfTold old (λ t. o.stops t.shelf answer) → Adds nothing old new → Answers o old new answer
   read_fault : Adds nothing old new → Answers o old new outcome.ReadFault
   write_fault : (out : Output) → IfTold old (λ t. MayStand o t.shelf out) → Adds out old new → Answers o old new outcome.WriteFault
-  no_memory : (out : Output) → IfTold old (λ t. MayStand o t.shelf out) → Adds out old new → WritesHeld o out old new → Answers o old new outcome.NoMemory
+  no_memory : (out : Output) → IfTold old (λ t. MayStand o t.shelf out) → Adds out old new → WritesHeld o out old new → out.said ≡ [] → Answers o old new outcome.NoMemory
 
 -- What is specified was done, with a reading slot for each of the texts: no more of them were opened, over every desk. A failed read is told only where what was taken of the texts leaves the answer open, and over a steady desk a fault only for its cause.
 pub record Implements (o : CommandSpec) (old new : DeskState) (answer : Outcome) : Type 0 where

@@ -41,7 +41,7 @@ added o a b _ (done out due adds stays) = (out, adds)
 added o a b _ (refused answer is due adds) = (nothing, adds)
 added o a b _ (read_fault adds) = (nothing, adds)
 added o a b _ (write_fault out part adds) = (out, adds)
-added o a b _ (no_memory out part adds held) = (out, adds)
+added o a b _ (no_memory out part adds held silent) = (out, adds)
 
 abbrev made_and_said : List Made → List ℕ → Output
 made_and_said made said = record { made = made; said = said }
@@ -81,7 +81,7 @@ module _ (files : Shelf) (calls : List Call) (a b : DeskState) (old : a.view.tol
   ends_over o _ (refused answer is due adds) = is_refused answer is (before (λ t. o.stops t.shelf answer) due) (sym (is_output nothing adds))
   ends_over o _ (read_fault adds) = unread (sym (is_output nothing adds))
   ends_over o _ (write_fault out part adds) = unwritten (subst (MayStand o files) (is_output out adds) (before (λ t. MayStand o t.shelf out) part))
-  ends_over o _ (no_memory out part adds held) = wanting (subst (MayStand o files) (is_output out adds) (before (λ t. MayStand o t.shelf out) part))
+  ends_over o _ (no_memory out part adds held silent) = wanting (subst (MayStand o files) (is_output out adds) (before (λ t. MayStand o t.shelf out) part)) (subst (λ (x : Output). x.said ≡ []) (is_output out adds) silent)
 
   says_headline : (w : Wanted) (answer : Outcome) → Implements (spec_of w) a b answer → answer ≡ outcome.Done → Headline w (told_of files []) (told_of files calls)
   says_headline (Encode w) answer implements is = record {

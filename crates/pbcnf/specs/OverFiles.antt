@@ -23,13 +23,13 @@ use Rattle.pb_suite.specs.Statuses.{status_of}
 abbrev pub output_of : List Call → Output
 output_of calls = record { made = made_of calls; said = said_of calls }
 
--- All that is specified was made and said; or the refusal that is specified is told, or a read failed, and nothing was; or a write failed, or memory was wanting, and a first part was.
+-- All that is specified was made and said; or the refusal that is specified is told, or a read failed, and nothing was; or a write failed, or memory was wanting before a word was said, and a first part was.
 pub data EndsOver (files : Shelf) (out : Output) (o : CommandSpec) : Outcome → Type 0 where
   done : o.done files out → EndsOver files out o outcome.Done
   refused : (answer : Outcome) → IsRefusal o.texts answer → o.stops files answer → out ≡ nothing → EndsOver files out o answer
   read_fault : out ≡ nothing → EndsOver files out o outcome.ReadFault
   write_fault : MayStand o files out → EndsOver files out o outcome.WriteFault
-  no_memory : MayStand o files out → EndsOver files out o outcome.NoMemory
+  no_memory : MayStand o files out → out.said ≡ [] → EndsOver files out o outcome.NoMemory
 
 -- What encode made of the text: a CNF that encodes it, a derivation that is accepted, where one was asked for, and the rows of its table, where one was.
 pub record Encodes (w : EncodeWords) (old new : Told) : Type 0 where
