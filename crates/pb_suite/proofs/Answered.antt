@@ -35,7 +35,7 @@ record IsSized (w : EncodeWords) (shelf : Shelf) : Type 0 where
 sized : (w : EncodeWords) (a b : DeskState) (shelf : Shelf) (e : IsEncoded w a b shelf) → IsSized w e.before.shelf
 sized w a b shelf e =
     in_told a e.before (λ t. IsSized w t.shelf) e.tells_before
-    (done_so (encode_spec w) a b (λ t. IsSized w t.shelf) (λ t out due. record { problem = due.0; denoted = due.1; encodable = due.2 }) outcome.Done refl e.implements)
+    (done_so (encode_spec e.derive w) a b (λ t. IsSized w t.shelf) (λ t out due. record { problem = due.0; denoted = due.1; encodable = due.2 }) outcome.Done refl e.implements)
 
 few_vars : (o : Options) (p : Problem) → IsEncodable o p → problem_vars o p < 2 ^ 31
 few_vars o p encodable = let few = encodable.vars in omega (arith, few)

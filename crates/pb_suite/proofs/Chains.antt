@@ -31,7 +31,6 @@ use Rattle.pb_model.specs.ModelLines.{symbols_of}
 use Rattle.pb_model.specs.ModelReading.{told as model_told, told_in}
 use Rattle.pb_model.proofs.Told.{ok_covers}
 use Rattle.pb_words.specs.EncodeWords.{EncodeWords}
-use Rattle.pb_words.specs.Parsed.Wanted.{Refute}
 use Rattle.pb_words.specs.RefuteWords.{RefuteWords}
 use Rattle.pb_suite.specs.declared.outcome.Outcome.{Outcome}
 use Rattle.pb_suite.specs.declared.outcome.Outcome.TheVariants as outcome
@@ -49,7 +48,7 @@ use Rattle.pb_suite.proofs.Amples.{ample_reads, ample_writes, in_is_told}
 use Rattle.pb_suite.proofs.Decodes.{ends_saying, obeyed_says, same_posed}
 use Rattle.pb_suite.proofs.Derives.{obeyed_derives}
 use Rattle.pb_suite.proofs.Encodes.{obeyed_encodes}
-use Rattle.pb_suite.proofs.NoTwoDue.{no_two_due}
+use Rattle.pb_suite.proofs.OneDues.{one_refute}
 use Rattle.pb_suite.proofs.Refutes.{no_solution}
 use Rattle.pb_suite.proofs.Unread.{same_some}
 
@@ -77,11 +76,11 @@ accepted_says p cnf proof vars clauses w reads =
 -- ---- what stands on the later shelf
 
 pub made_encoding : (w : EncodeWords) (a b : DeskState) (shelf : Shelf) (e : IsEncoded w a b shelf) → MakesEncoding w e.before e.after
-made_encoding w a b shelf e = in_is_told b e.after (MakesEncoding w e.before) e.tells_after (in_told a e.before (λ t. IsTold b (MakesEncoding w t)) e.tells_before (obeyed_encodes w a b outcome.Done refl e.implements))
+made_encoding w a b shelf e = in_is_told b e.after (MakesEncoding w e.before) e.tells_after (in_told a e.before (λ t. IsTold b (MakesEncoding w t)) e.tells_before (obeyed_encodes e.derive w a b outcome.Done refl e.implements))
 
 made_derivation : (w : EncodeWords) (name : List ℕ) (a b : DeskState) (shelf : Shelf) (e : IsEncoded w a b shelf) → w.proof ≡ Some name → MakesDerivation w name e.before e.after
 made_derivation w name a b shelf e named =
-    in_is_told b e.after (MakesDerivation w name e.before) e.tells_after (in_told a e.before (λ t. IsTold b (MakesDerivation w name t)) e.tells_before (obeyed_derives w a b outcome.Done refl e.implements name named))
+    in_is_told b e.after (MakesDerivation w name e.before) e.tells_after (in_told a e.before (λ t. IsTold b (MakesDerivation w name t)) e.tells_before (obeyed_derives e.derive e.accepted w a b outcome.Done refl e.implements name named))
 
 pub has_first : (made newer older : List Made) (file : Made) → made ≡ newer ++ file ∷ older → Contains made file
 has_first made newer older file is = subst (λ (xs : List Made). Contains xs file) (sym is) (Contains-append_right newer (file ∷ older) file (Contains-here file older))
@@ -121,7 +120,7 @@ models_are_decoded w d a b x y answer now cnf text p of tells e implements denot
 -- what is done is due, and nothing else
 refuted_due : (r : RefuteWords) (shelf : Shelf) → IsFollowed shelf r ending.refuted → IsDue (refute_spec r) shelf (only_words (codes "refuted\n"))
 refuted_due r shelf f =
-    let one = no_two_due (Refute r) shelf in
+    let one = one_refute r shelf in
     record {
       done = (f, refl);
       only = λ other due. due.1;
@@ -176,5 +175,5 @@ says_or_wants line a b _ read write write_fault = absurd (write refl)
 says_or_wants line a b _ read write no_memory = inr refl
 
 pub ample_desks_say : AmpleDesksSay
-ample_desks_say w t a b answer line fresh steady enough implements said =
-    says_or_wants line a b answer (ample_reads (spec_of w) t a fresh enough b answer steady implements) (ample_writes (spec_of w) t a fresh enough b answer steady implements) said
+ample_desks_say derive w t a b answer line fresh steady enough implements said =
+    says_or_wants line a b answer (ample_reads (spec_of derive w) t a fresh enough b answer steady implements) (ample_writes (spec_of derive w) t a fresh enough b answer steady implements) said

@@ -3,6 +3,7 @@ use Rattle.std.proofs.Common.{◌≡◌, Some, None, inr, refl}
 use Rattle.pb_base.specs.declared.limit.LimitKind.{LimitKind}
 use Rattle.pb_base.specs.declared.problem.Problem.{Problem}
 use Rattle.pb_desk.specs.Desk.{DeskState, IfTold}
+use Rattle.pb_encode.specs.Encodings.{derivation_text}
 use Rattle.pb_encode.specs.Summaries.{IsEncodable, IsOver}
 use Rattle.pb_words.specs.EncodeWords.{EncodeWords}
 use Rattle.pb_words.specs.inner.Fit.{IsFitEncode}
@@ -17,8 +18,8 @@ pub names_differ : (w : EncodeWords) → IsFitEncode w → w.proof ≡ Some w.cn
 names_differ w fit named = (fit.other w.cnf named).1 refl
 
 module _ (w : EncodeWords) (p : Problem) (b : DeskState) (denoted : IfTold b (λ t. IsDenoted t.shelf w.opb w.bound p)) where
-  pub encoded_due : IsEncodable w.options p → IfTold b (λ t. (encode_spec w).done t.shelf (encoded_output (names_in w) w.options p))
-  encoded_due is = told_more b (λ t. IsDenoted t.shelf w.opb w.bound p) (λ t. (encode_spec w).done t.shelf (encoded_output (names_in w) w.options p)) (λ t found. (p, found, is, refl)) denoted
+  pub encoded_due : IsEncodable w.options p → IfTold b (λ t. (encode_spec derivation_text w).done t.shelf (encoded_output derivation_text (names_in w) w.options p))
+  encoded_due is = told_more b (λ t. IsDenoted t.shelf w.opb w.bound p) (λ t. (encode_spec derivation_text w).done t.shelf (encoded_output derivation_text (names_in w) w.options p)) (λ t found. (p, found, is, refl)) denoted
 
-  pub over_due : (which : LimitKind) → IsOver which w.options p → IfTold b (λ t. (encode_spec w).stops t.shelf (outcome.Limit None which None))
-  over_due which is = told_more b (λ t. IsDenoted t.shelf w.opb w.bound p) (λ t. (encode_spec w).stops t.shelf (outcome.Limit None which None)) (λ t found. inr (over p which found is)) denoted
+  pub over_due : (which : LimitKind) → IsOver which w.options p → IfTold b (λ t. (encode_spec derivation_text w).stops t.shelf (outcome.Limit None which None))
+  over_due which is = told_more b (λ t. IsDenoted t.shelf w.opb w.bound p) (λ t. (encode_spec derivation_text w).stops t.shelf (outcome.Limit None which None)) (λ t found. inr (over p which found is)) denoted

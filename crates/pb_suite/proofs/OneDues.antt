@@ -48,6 +48,7 @@ use Rattle.pb_suite.specs.CheckSpec.{check_spec, IsJudged, StopsCheck}
 use Rattle.pb_suite.specs.CheckSpec.StopsCheck.{unread as no_problem, lacking, token, limit, denial}
 use Rattle.pb_suite.specs.DecodeSpec.{decode_spec, ComesTo, IsAnswered, StopsDecode}
 use Rattle.pb_suite.specs.DecodeSpec.StopsDecode.{unread as decode_no_problem, unanswered, no_model, violated}
+use Rattle.pb_suite.specs.Derivations.{Derivations}
 use Rattle.pb_suite.specs.EncodeSpec.{encoded_output, names_in, encode_spec, PassesLimit, StopsEncode}
 use Rattle.pb_suite.specs.EncodeSpec.PassesLimit.{over}
 use Rattle.pb_suite.specs.MapSpec.{map_spec}
@@ -90,10 +91,10 @@ module _ (shelf : Shelf) (opb : List ℕ) (bound : Option ℤ) (o : Options) whe
   encode_both p answer denoted encodable (inl h) = unread_posed shelf opb bound p answer h denoted
   encode_both p answer denoted encodable (inr h) = too_large_no o (IsDenoted shelf opb bound) (same_posed shelf opb bound) p answer denoted encodable h
 
-pub one_encode : (w : EncodeWords) (shelf : Shelf) → SpecifiesOne (encode_spec w) shelf
-one_encode w shelf = record {
+pub one_encode : (derive : Derivations) (w : EncodeWords) (shelf : Shelf) → SpecifiesOne (encode_spec derive w) shelf
+one_encode derive w shelf = record {
   one_output = λ out other (p, denoted, encodable, is) (q, posed', encodable', is').
-      is ∙ ap (λ (r : Problem). encoded_output (names_in w) w.options r) (same_posed shelf w.opb w.bound p q denoted posed') ∙ sym is';
+      is ∙ ap (λ (r : Problem). encoded_output derive (names_in w) w.options r) (same_posed shelf w.opb w.bound p q denoted posed') ∙ sym is';
   one_stop = encode_ways shelf w.opb w.bound w.options;
   not_both = λ out answer (p, denoted, encodable, is) h. encode_both shelf w.opb w.bound w.options p answer denoted encodable h;
 }

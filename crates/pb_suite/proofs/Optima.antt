@@ -15,7 +15,7 @@ use Rattle.pb_suite.specs.SaidOptima.{IsOptimum, SaysOptimum}
 use Rattle.pb_suite.specs.SaidSolutions.{IsDue}
 use Rattle.pb_suite.specs.Chain.{OptimaAreAnswered}
 use Rattle.pb_suite.specs.Implementing.{Implements}
-use Rattle.pb_suite.proofs.NoTwoDue.{no_two_due}
+use Rattle.pb_suite.proofs.OneOptima.{one_optimum}
 use Rattle.pb_suite.proofs.Chains.{encoded_followed}
 use Rattle.pb_desk.specs.View.{Told}
 use Rattle.pb_desk.specs.Desk.{DeskState, IfTold, IsTold}
@@ -69,7 +69,7 @@ proved_are_optimal w shelf p m proved =
 -- and is due
 optimum_due : (w : OptimumWords) (shelf : Shelf) (p : Problem) (m : Model) → IsProved shelf w p m → IsDue (optimum_spec w) shelf (only_words (optimum_text p m.values))
 optimum_due w shelf p m proved =
-    let one = no_two_due (Optimum w) shelf in
+    let one = one_optimum w shelf in
     let out : Output = only_words (optimum_text p m.values) in
     let due : (optimum_spec w).done shelf out = (p, m, proved, refl) in
     record { done = due; only = λ other found. one.one_output other out found due; goes_on = λ answer stops. one.not_both out answer due stops }

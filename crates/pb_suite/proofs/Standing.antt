@@ -117,7 +117,7 @@ module _ (w : EncodeWords) (t : Told) (p : Problem) (denoted : IsDenoted t.shelf
       by_place made rest (inl (same, behind)) =
           begun (named ∙ ap (λ (f : Made). Some f.name) same ∙ ap (λ (f : Made). Some f.name) made) (sym rest ∙ sym behind) (some_lines n (sym (ap (λ (f : Made). f.bytes) made) ∙ ap (λ (f : Made). take n f.bytes) (sym same)))
 
-  of_output : (whole out : Output) → whole ≡ encoded_output (names_in w) w.options p → IsPartOf whole out → out.made ≡ file_of 1 name bytes ∷ before → IsBegun w t name bytes before
+  of_output : (whole out : Output) → whole ≡ encoded_output derivation_text (names_in w) w.options p → IsPartOf whole out → out.made ≡ file_of 1 name bytes ∷ before → IsBegun w t name bytes before
   of_output whole _ due none is = cc
   of_output whole _ due (of_file newer file older n parts) is = of_part w.proof refl newer file older n (sym (ap (λ (o : Output). o.made) due) ∙ parts) is
   of_output whole _ due (of_words n) is = of_all w.proof refl (sym (ap (λ (o : Output). o.made) due) ∙ is)
@@ -125,33 +125,33 @@ module _ (w : EncodeWords) (t : Told) (p : Problem) (denoted : IsDenoted t.shelf
 -- ---- a run
 
 module _ (w : EncodeWords) (a b : DeskState) where
-  stands_of : (t u : Told) (out : Output) → MayStand (encode_spec w) t.shelf out → IsMore out t u → Stands w t u
+  stands_of : (t u : Told) (out : Output) → MayStand (encode_spec derivation_text w) t.shelf out → IsMore out t u → Stands w t u
   stands_of t u out may more name bytes before is = by_part may
     where
       made_is : out.made ≡ file_of 1 name bytes ∷ before
       made_is = append_cancel_right out.made (file_of 1 name bytes ∷ before) t.made (sym more.made ∙ is)
 
-      by_part : MayStand (encode_spec w) t.shelf out → IsBegun w t name bytes before
+      by_part : MayStand (encode_spec derivation_text w) t.shelf out → IsBegun w t name bytes before
       by_part (inl bare) = let no : [] ≡ file_of 1 name bytes ∷ before = sym (ap (λ (o : Output). o.made) bare) ∙ made_is in cc
       by_part (inr part) = of_output w t part.1.0 part.1.1 part.1.2 name bytes before part.0 out part.1.3 part.2 made_is
 
-  told_stands : (x y : Option Told) (out : Output) → IfSome x (λ t. MayStand (encode_spec w) t.shelf out) → IfSome x (λ t. IsSomeAnd y (IsMore out t)) → IfSome x (λ t. IsSomeAnd y (Stands w t))
+  told_stands : (x y : Option Told) (out : Output) → IfSome x (λ t. MayStand (encode_spec derivation_text w) t.shelf out) → IfSome x (λ t. IsSomeAnd y (IsMore out t)) → IfSome x (λ t. IsSomeAnd y (Stands w t))
   told_stands None y out may more = tt
   told_stands (Some t) None out may more = absurd more
   told_stands (Some t) (Some u) out may more = stands_of t u out may more
 
-  whole_may : (out : Output) → IfTold a (λ t. (encode_spec w).done t.shelf out) → IfTold a (λ t. MayStand (encode_spec w) t.shelf out)
-  whole_may out due = told_more a (λ t. (encode_spec w).done t.shelf out) (λ t. MayStand (encode_spec w) t.shelf out) (λ t h. inr (out, h, subst (λ (said : List ℕ). IsPartOf out (record { made = out.made; said = said })) (take-length out.said) (of_words (length out.said)))) due
+  whole_may : (out : Output) → IfTold a (λ t. (encode_spec derivation_text w).done t.shelf out) → IfTold a (λ t. MayStand (encode_spec derivation_text w) t.shelf out)
+  whole_may out due = told_more a (λ t. (encode_spec derivation_text w).done t.shelf out) (λ t. MayStand (encode_spec derivation_text w) t.shelf out) (λ t h. inr (out, h, subst (λ (said : List ℕ). IsPartOf out (record { made = out.made; said = said })) (take-length out.said) (of_words (length out.said)))) due
 
-  bare_may : IfTold a (λ t. MayStand (encode_spec w) t.shelf nothing)
-  bare_may = always a (λ t. MayStand (encode_spec w) t.shelf nothing) (λ t. inl refl)
+  bare_may : IfTold a (λ t. MayStand (encode_spec derivation_text w) t.shelf nothing)
+  bare_may = always a (λ t. MayStand (encode_spec derivation_text w) t.shelf nothing) (λ t. inl refl)
 
-  answers_stand : (answer : Outcome) → Answers (encode_spec w) a b answer → IfTold a (λ t. IsTold b (Stands w t))
+  answers_stand : (answer : Outcome) → Answers (encode_spec derivation_text w) a b answer → IfTold a (λ t. IsTold b (Stands w t))
   answers_stand _ (done out due adds stays) = told_stands a.view.told b.view.told out (whole_may out due) adds.told
   answers_stand _ (refused answer is due adds) = told_stands a.view.told b.view.told nothing bare_may adds.told
   answers_stand _ (read_fault adds) = told_stands a.view.told b.view.told nothing bare_may adds.told
   answers_stand _ (write_fault out part adds) = told_stands a.view.told b.view.told out part adds.told
   answers_stand _ (no_memory out part adds held silent) = told_stands a.view.told b.view.told out part adds.told
 
-  pub obeyed_stands : (answer : Outcome) → Implements (encode_spec w) a b answer → IfTold a (λ t. IsTold b (Stands w t))
+  pub obeyed_stands : (answer : Outcome) → Implements (encode_spec derivation_text w) a b answer → IfTold a (λ t. IsTold b (Stands w t))
   obeyed_stands answer implements = answers_stand answer implements.answers

@@ -37,7 +37,7 @@ use Rattle.pb_suite.proofs.Going.{by_same, goes_by}
 use Rattle.pb_suite.proofs.Texts.{is_told_so, told_more}
 
 module _ (o : CommandSpec) (options : Options) (p : Problem) (names : FileNames) (b d : DeskState) (tells : IsSteady b → IsSome b.view.told) (others : names.proof ≡ Some names.cnf → ⊥)
-    (due : IsEncodable options p → IfTold b (λ t. o.done t.shelf (encoded_output names options p))) (stops : (which : LimitKind) → IsOver which options p → IfTold b (λ t. o.stops t.shelf (outcome.Limit None which None))) where
+    (due : IsEncodable options p → IfTold b (λ t. o.done t.shelf (encoded_output derivation_text names options p))) (stops : (which : LimitKind) → IsOver which options p → IfTold b (λ t. o.stops t.shelf (outcome.Limit None which None))) where
   abbrev name : List ℕ
   name = names.cnf
 
@@ -51,7 +51,7 @@ module _ (o : CommandSpec) (options : Options) (p : Problem) (names : FileNames)
   summary = words_of options p
 
   abbrev whole : Output
-  whole = encoded_output names options p
+  whole = encoded_output derivation_text names options p
 
   -- ---- first parts
 

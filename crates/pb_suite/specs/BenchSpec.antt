@@ -1,19 +1,20 @@
 -- The specification of encoding a generated problem: what encoding its text does under the default options. No text is read. Our own.
-use Rattle.std.specs.Prelude.{ℕ, ◌≡◌, List, [], Option, Some, None}
+use Rattle.std.specs.Prelude.{ℕ, ◌≡◌, List, [], ◌∷◌, Option, Some, None}
 use Rattle.pb_base.specs.declared.problem.Problem.{Problem}
 use Rattle.pb_gen.specs.Generated.{generated}
 use Rattle.pb_opb.specs.Faults.{Reads}
 use Rattle.pb_base.specs.Defaults.{default_options}
 use Rattle.pb_encode.specs.BoundLines.{words_of}
+use Rattle.pb_encode.specs.Encodings.{problem_text}
 use Rattle.pb_encode.specs.Summaries.{IsEncodable}
 use Rattle.pb_words.specs.BenchWords.{BenchWords}
 use Rattle.pb_suite.specs.Outputs.{only_words, Output}
 use Rattle.pb_suite.specs.CommandSpec.{CommandSpec}
-use Rattle.pb_suite.specs.EncodeSpec.{encoded_output, PassesLimit}
+use Rattle.pb_suite.specs.EncodeSpec.{file_of, PassesLimit}
 
 -- the size of the encoding, beside its CNF file where that is named
 abbrev pub bench_output : Option (List ℕ) → Problem → Output
-bench_output (Some name) p = encoded_output (record { cnf = name; proof = None }) default_options p
+bench_output (Some name) p = record { made = file_of 0 name (problem_text default_options p) ∷ []; said = words_of default_options p }
 bench_output None p = only_words (words_of default_options p)
 
 abbrev pub bench_spec : BenchWords → CommandSpec

@@ -24,6 +24,7 @@ use Rattle.pb_suite.specs.CommandSpec.{Shelf, Suffices}
 use Rattle.pb_suite.specs.CommandSpecs.{spec_of}
 use Rattle.pb_suite.specs.DecodeSpec.{decode_spec}
 use Rattle.pb_suite.specs.Denoted.{IsDenoted}
+use Rattle.pb_suite.specs.Derivations.{AreAccepted, Derivations}
 use Rattle.pb_suite.specs.EncodeSpec.{encode_spec}
 use Rattle.pb_suite.specs.Headline.{HasNoSolution}
 use Rattle.pb_suite.specs.Implementing.{Implements}
@@ -33,9 +34,11 @@ use Rattle.pb_suite.specs.RefuteSpec.{refute_spec}
 use Rattle.pb_suite.specs.SaidOptima.{IsOptimum}
 use Rattle.pb_suite.specs.SaidSolutions.{IsDue, SaysOnly}
 
--- A run that encoded is done. On a shelf, later, stand the text that it read and each file that it made, under its name: files return what was written.
+-- A run that encoded is done, with derivations that are accepted. On a shelf, later, stand the text that it read and each file that it made, under its name: files return what was written.
 pub record IsEncoded (w : EncodeWords) (old new : DeskState) (shelf : Shelf) : Type 0 where
-  pub implements : Implements (encode_spec w) old new outcome.Done
+  pub derive : Derivations
+  pub accepted : AreAccepted derive
+  pub implements : Implements (encode_spec derive w) old new outcome.Done
   pub before : Told
   pub after : Told
   pub tells_before : old.view.told ≡ Some before
@@ -159,5 +162,5 @@ SaysOrWants line old new answer = ((answer ≡ outcome.Done) × Adds (only_words
 -- over a fresh and steady desk with what is called for, a line that was said unless a call failed was said, or memory was wanting
 abbrev pub AmpleDesksSay : Type 0
 AmpleDesksSay =
-    (w : Wanted) (t : Told) (old new : DeskState) (answer : Outcome) (line : List ℕ)
-    → IsFresh t old → IsSteady old → Suffices (spec_of w) t.shelf old.view.room → Implements (spec_of w) old new answer → SaysOnly line old new answer → SaysOrWants line old new answer
+    (derive : Derivations) (w : Wanted) (t : Told) (old new : DeskState) (answer : Outcome) (line : List ℕ)
+    → IsFresh t old → IsSteady old → Suffices (spec_of derive w) t.shelf old.view.room → Implements (spec_of derive w) old new answer → SaysOnly line old new answer → SaysOrWants line old new answer

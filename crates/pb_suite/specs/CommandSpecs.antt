@@ -9,6 +9,7 @@ use Rattle.pb_suite.specs.CommandSpec.{CommandSpec, Suffices}
 use Rattle.pb_suite.specs.BenchSpec.{bench_spec}
 use Rattle.pb_suite.specs.CheckSpec.{check_spec}
 use Rattle.pb_suite.specs.DecodeSpec.{decode_spec}
+use Rattle.pb_suite.specs.Derivations.{Derivations}
 use Rattle.pb_suite.specs.EncodeSpec.{encode_spec}
 use Rattle.pb_suite.specs.MapSpec.{map_spec}
 use Rattle.pb_suite.specs.OptimumSpec.{optimum_spec}
@@ -16,19 +17,19 @@ use Rattle.pb_suite.specs.ProbeSpec.{probe_spec}
 use Rattle.pb_suite.specs.RefuteSpec.{refute_spec}
 use Rattle.pb_suite.specs.WcnfSpec.{wcnf_spec}
 
-abbrev pub spec_of : Wanted → CommandSpec
-spec_of (Encode w) = encode_spec w
-spec_of (Check w) = check_spec w
-spec_of (Decode w) = decode_spec w
-spec_of (Probe w) = probe_spec w
-spec_of (Bench w) = bench_spec w
-spec_of (Refute w) = refute_spec w
-spec_of (Map w) = map_spec w
-spec_of (Wcnf w) = wcnf_spec w
-spec_of (Optimum w) = optimum_spec w
+abbrev pub spec_of : Derivations → Wanted → CommandSpec
+spec_of derive (Encode w) = encode_spec derive w
+spec_of derive (Check w) = check_spec w
+spec_of derive (Decode w) = decode_spec w
+spec_of derive (Probe w) = probe_spec w
+spec_of derive (Bench w) = bench_spec w
+spec_of derive (Refute w) = refute_spec w
+spec_of derive (Map w) = map_spec w
+spec_of derive (Wcnf w) = wcnf_spec w
+spec_of derive (Optimum w) = optimum_spec w
 
 -- a fresh and steady desk with what the words call for
-pub record IsAmple (t : Told) (words : List (List ℕ)) (desk : DeskState) : Type 0 where
+pub record IsAmple (derive : Derivations) (t : Told) (words : List (List ℕ)) (desk : DeskState) : Type 0 where
   pub fresh : IsFresh t desk
   pub steady : IsSteady desk
-  pub enough : ForSome (parsed_of words) (λ w. Suffices (spec_of w) t.shelf desk.view.room)
+  pub enough : ForSome (parsed_of words) (λ w. Suffices (spec_of derive w) t.shelf desk.view.room)

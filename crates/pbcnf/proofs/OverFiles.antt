@@ -14,6 +14,7 @@ use Rattle.pb_suite.specs.declared.outcome.Outcome.{Outcome}
 use Rattle.pb_suite.specs.declared.outcome.Outcome.TheVariants as outcome
 use Rattle.pb_suite.specs.CommandSpec.{CommandSpec, MayStand, Shelf}
 use Rattle.pb_suite.specs.CommandSpecs.{spec_of}
+use Rattle.pb_suite.specs.Derivations.{AreAccepted, Derivations}
 use Rattle.pb_suite.specs.Headline.{HasNoSolution, IsExtended, MakesDerivation, MakesEncoding, MakesWeighing}
 use Rattle.pb_suite.specs.Implementing.{Answers, Implements}
 use Rattle.pb_suite.specs.Implementing.Answers.{done, refused, read_fault, write_fault, no_memory}
@@ -83,38 +84,38 @@ module _ (files : Shelf) (calls : List Call) (a b : DeskState) (old : a.view.tol
   ends_over o _ (write_fault out part adds) = unwritten (subst (MayStand o files) (is_output out adds) (before (λ t. MayStand o t.shelf out) part))
   ends_over o _ (no_memory out part adds held silent) = wanting (subst (MayStand o files) (is_output out adds) (before (λ t. MayStand o t.shelf out) part)) (subst (λ (x : Output). x.said ≡ []) (is_output out adds) silent)
 
-  says_headline : (w : Wanted) (answer : Outcome) → Implements (spec_of w) a b answer → answer ≡ outcome.Done → Headline w (told_of files []) (told_of files calls)
-  says_headline (Encode w) answer implements is = record {
-    encoding = both (MakesEncoding w) (obeyed_encodes w a b answer is implements);
-    derivation = λ name named. both (MakesDerivation w name) (obeyed_derives w a b answer is implements name named);
-    bounds = λ table. both (SaysBounds w) (obeyed_bounds w a b answer table is implements);
+  says_headline : (derive : Derivations) → AreAccepted derive → (w : Wanted) (answer : Outcome) → Implements (spec_of derive w) a b answer → answer ≡ outcome.Done → Headline w (told_of files []) (told_of files calls)
+  says_headline derive accepted (Encode w) answer implements is = record {
+    encoding = both (MakesEncoding w) (obeyed_encodes derive w a b answer is implements);
+    derivation = λ name named. both (MakesDerivation w name) (obeyed_derives derive accepted w a b answer is implements name named);
+    bounds = λ table. both (SaysBounds w) (obeyed_bounds derive w a b answer table is implements);
   }
-  says_headline (Check w) answer implements is = before (λ t. IsExtended w t.shelf) (obeyed_extends w a b answer is implements)
-  says_headline (Decode w) answer implements is = tt
-  says_headline (Probe w) answer implements is = tt
-  says_headline (Bench w) answer implements is = tt
-  says_headline (Refute w) answer implements is = before (λ t. HasNoSolution w t.shelf) (obeyed_refutes w a b answer is implements)
-  says_headline (Map w) answer implements is = tt
-  says_headline (Wcnf w) answer implements is = both (MakesWeighing w) (obeyed_weighs w a b answer is implements)
-  says_headline (Optimum w) answer implements is = both (SaysOptimum w) (done_says_optimum w a b answer is implements)
+  says_headline derive accepted (Check w) answer implements is = before (λ t. IsExtended w t.shelf) (obeyed_extends w a b answer is implements)
+  says_headline derive accepted (Decode w) answer implements is = tt
+  says_headline derive accepted (Probe w) answer implements is = tt
+  says_headline derive accepted (Bench w) answer implements is = tt
+  says_headline derive accepted (Refute w) answer implements is = before (λ t. HasNoSolution w t.shelf) (obeyed_refutes w a b answer is implements)
+  says_headline derive accepted (Map w) answer implements is = tt
+  says_headline derive accepted (Wcnf w) answer implements is = both (MakesWeighing w) (obeyed_weighs w a b answer is implements)
+  says_headline derive accepted (Optimum w) answer implements is = both (SaysOptimum w) (done_says_optimum w a b answer is implements)
 
-  ends_asked : (w : Wanted) (answer : Outcome) → Implements (spec_of w) a b answer → EndsSome files calls answer
-  ends_asked w answer implements = is_asked w answer (ends_over (spec_of w) answer implements.answers) (says_headline w answer implements)
+  ends_asked : (derive : Derivations) → AreAccepted derive → (w : Wanted) (answer : Outcome) → Implements (spec_of derive w) a b answer → EndsSome files calls answer
+  ends_asked derive accepted w answer implements = is_asked derive accepted w answer (ends_over (spec_of derive w) answer implements.answers) (says_headline derive accepted w answer implements)
 
 ends_some : (start files : Shelf) (calls : List Call) (a b : DeskState) → a.view.told ≡ Some (told_of start []) → b.view.told ≡ Some (told_of files calls) → IsTrue a.keeps → IsTrue b.keeps → (answer : Outcome) → AnswersSome a b answer → EndsSome files calls answer
-ends_some start files calls a b old new was is _ (asked w answer implements) =
-    let so = seen_both a b (λ x y. Implements (spec_of w) x y answer) is was implements in
-    let adds = added (spec_of w) a b answer so.answers in
+ends_some start files calls a b old new was is _ (asked derive accepted w answer implements) =
+    let so = seen_both a b (λ x y. Implements (spec_of derive w) x y answer) is was implements in
+    let adds = added (spec_of derive w) a b answer so.answers in
     let same = same_files start files calls a b old new adds.0 adds.1 in
-    ends_asked files calls a b (subst (λ (shelf : Shelf). a.view.told ≡ Some (told_of shelf [])) (sym same) old) new w answer so
+    ends_asked files calls a b (subst (λ (shelf : Shelf). a.view.told ≡ Some (told_of shelf [])) (sym same) old) new derive accepted w answer so
 ends_some start files calls a b old new was is _ (usage same) = no_request (nothing_is start files calls a b old new same)
 ends_some start files calls a b old new was is _ (no_words same) = no_room (nothing_is start files calls a b old new same)
 
 -- a desk that told something still does
 still_tells : (a b : DeskState) (t : Told) → a.view.told ≡ Some t → b.view.told ≡ None → IsTrue a.keeps → IsTrue b.keeps → (answer : Outcome) → AnswersSome a b answer → ⊥
-still_tells a b t old new was is _ (asked w answer implements) =
-    let so = seen_both a b (λ x y. Implements (spec_of w) x y answer) is was implements in
-    let adds = added (spec_of w) a b answer so.answers in
+still_tells a b t old new was is _ (asked derive accepted w answer implements) =
+    let so = seen_both a b (λ x y. Implements (spec_of derive w) x y answer) is was implements in
+    let adds = added (spec_of derive w) a b answer so.answers in
     subst (λ (o : Option Told). IsSomeAnd o (IsMore adds.0 t)) new (in_told a t (λ u. IsTold b (IsMore adds.0 u)) old adds.1.told)
 still_tells a b t old new was is _ (usage same) = let no : Some t ≡ None = sym old ∙ sym (ap (λ (desk : DeskState). desk.view.told) same) ∙ new in cc
 still_tells a b t old new was is _ (no_words same) = let no : Some t ≡ None = sym old ∙ sym (ap (λ (desk : DeskState). desk.view.told) same) ∙ new in cc

@@ -11,6 +11,7 @@ use Rattle.pb_suite.specs.declared.outcome.Outcome.{Outcome}
 use Rattle.pb_suite.specs.declared.outcome.Outcome.TheVariants as outcome
 use Rattle.pb_suite.specs.CommandSpec.{CommandSpec, MayStand, Shelf}
 use Rattle.pb_suite.specs.CommandSpecs.{spec_of}
+use Rattle.pb_suite.specs.Derivations.{AreAccepted, Derivations}
 use Rattle.pb_suite.specs.FaultLines.{fault_line, IsToldNext}
 use Rattle.pb_suite.specs.Headline.{HasNoSolution, IsExtended, MakesDerivation, MakesEncoding, MakesWeighing}
 use Rattle.pb_suite.specs.Implementing.{IsRefusal}
@@ -46,9 +47,9 @@ Headline (Wcnf w) old new = MakesWeighing w old new
 Headline (Optimum w) old new = SaysOptimum w old new
 Headline other old new = Unit {0}
 
--- Some words ended as they are specified, and if they are done, this says of the files what it is to say. Or the words asked for nothing, or memory was wanting for them, and nothing was made or said.
+-- Some words ended as they are specified, with derivations that are accepted, and if they are done, this says of the files what it is to say. Or the words asked for nothing, or memory was wanting for them, and nothing was made or said.
 pub data EndsSome (files : Shelf) (calls : List Call) : Outcome → Type 0 where
-  asked : (w : Wanted) (answer : Outcome) → EndsOver files (output_of calls) (spec_of w) answer → (answer ≡ outcome.Done → Headline w (told_of files []) (told_of files calls)) → EndsSome files calls answer
+  asked : (derive : Derivations) → AreAccepted derive → (w : Wanted) (answer : Outcome) → EndsOver files (output_of calls) (spec_of derive w) answer → (answer ≡ outcome.Done → Headline w (told_of files []) (told_of files calls)) → EndsSome files calls answer
   usage : output_of calls ≡ nothing → EndsSome files calls outcome.Usage
   no_memory : output_of calls ≡ nothing → EndsSome files calls outcome.NoMemory
 

@@ -1,5 +1,6 @@
 //! Encoding the problem of a file.
 ghost use Rattle.pb_desk.specs.Desk.{IsClosed};
+ghost use Rattle.pb_encode.specs.Encodings.{derivation_text};
 ghost use Rattle.pb_words.specs.EncodeWords.{as_encode_words};
 ghost use Rattle.pb_words.specs.inner.Fit.{IsFitEncode};
 ghost use Rattle.pb_suite.specs.Implementing.{Implements};
@@ -18,7 +19,7 @@ use std::alloc::Global;
 pub fn encode_file<D: Desk>(alloc: Global, asked: &EncodeArgs<'_>, desk: &mut D) -> Outcome
     requires closed { IsClosed (D.state desk.old) }
     requires fit { IsFitEncode (as_encode_words asked.now) }
-    ensures implements { let new = D.state desk.new in Implements (encode_spec (as_encode_words asked.now)) (seen_from new (D.state desk.old)) (seen_from new new) result }
+    ensures implements { let new = D.state desk.new in Implements (encode_spec derivation_text (as_encode_words asked.now)) (seen_from new (D.state desk.old)) (seen_from new new) result }
     ensures stays { Stays (D.state desk.old) (D.state desk.new) }
 {
     let names = Names {

@@ -14,7 +14,7 @@ pub returns-in_default-clause-answers : goal.returns-in_default-clause-answers
 returns-in_default-clause-answers g c = no_memory refl
 
 pub returns-clause-answers : goal.returns-clause-answers
-returns-clause-answers g c = answers_some _ _ _ _ c.run.ensures.implements c.run.ensures.taken c.run.ensures.unmoved
+returns-clause-answers g c = let does = c.run.ensures.implements in answers_some does.derive does.accepted _ _ _ _ does.implements c.run.ensures.taken c.run.ensures.unmoved
 
 pub returns-in-Err-clause-stays : goal.returns-in-Err-clause-stays
 returns-in-Err-clause-stays g c = stays_same (g.D.Desk.state c.args.desk.now)

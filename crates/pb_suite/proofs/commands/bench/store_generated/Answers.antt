@@ -3,7 +3,7 @@ use Rattle.pb_base.specs.Defaults.{default_options}
 use Rattle.pb_base.specs.declared.options.Options.{Options}
 use Rattle.pb_words.specs.BenchWords.{as_bench_words}
 use Rattle.pb_suite.specs.BenchSpec.{bench_output, bench_spec}
-use Rattle.pb_encode.specs.Encodings.{FileNames}
+use Rattle.pb_encode.specs.Encodings.{derivation_text, FileNames}
 use Rattle.pb_suite.specs.EncodeSpec.{encoded_output}
 use Rattle.pb_suite.specs.inner.Runs.{EndsStoring}
 use Rattle.pb_suite.specs.Seen.{seen_from}
@@ -22,7 +22,7 @@ returns-clause-implements g c =
     let b = g.D.Desk.state c.store.new.desk in
     let names : FileNames = record { cnf = name; proof = None } in
     storing_implements (bench_spec w) default_options p names (seen_from b a) (seen_from b b) (telling_desk a b (g.met.D.Desk.steady_tells c.args.desk.now)) (λ e. cc)
-    (bench_due w p (seen_from b a) c.requires.reads (encoded_output names default_options p) (ap (λ (n : Option (List ℕ)). bench_output n p) (sym c.requires.named)))
+    (bench_due w p (seen_from b a) c.requires.reads (encoded_output derivation_text names default_options p) (ap (λ (n : Option (List ℕ)). bench_output n p) (sym c.requires.named)))
     (bench_over w p (seen_from b a) c.requires.reads)
     (λ slot. writing_seen slot a b (c.requires.closed.writing slot)) c.store.result (storing_seen default_options p names a b c.store.result (subst (λ (o : Options). EndsStoring o p names a b c.store.result) c.default.ensures c.store.ensures))
 
