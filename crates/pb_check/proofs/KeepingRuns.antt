@@ -85,17 +85,17 @@ none_kept k r l a apart = both_begin r.lines l a (λ c p c' p'. Keeps taken.On k
 
 pub keeps_on : (t : Taken) (s0 s s' : Session) (a b d : DeskState) → t ≡ taken.On → KeepsOne taken.On s0 s a b → KeepsOne t s s' b d → KeepsOne taken.On s0 s' a d
 keeps_on t s0 s s' a b d is before line =
-    both_then s0.cnf.lines s0.lines s.cnf.lines s.lines s'.cnf.lines s'.lines a b d (λ c p c' p'. Keeps taken.On s0.kept s0.cnf s.kept s.cnf c c') (λ c p c' p'. Keeps taken.On s.kept s.cnf s'.kept s'.cnf c c') (λ c p c' p'. Keeps taken.On s0.kept s0.cnf s'.kept s'.cnf c c')
+    both_then s0.outputs.cnf.lines s0.derivation.lines s.outputs.cnf.lines s.derivation.lines s'.outputs.cnf.lines s'.derivation.lines a b d (λ c p c' p'. Keeps taken.On s0.outputs.kept s0.outputs.cnf s.outputs.kept s.outputs.cnf c c') (λ c p c' p'. Keeps taken.On s.outputs.kept s.outputs.cnf s'.outputs.kept s'.outputs.cnf c c') (λ c p c' p'. Keeps taken.On s0.outputs.kept s0.outputs.cnf s'.outputs.kept s'.outputs.cnf c c')
     (λ t0 u0 t1 u1 t2 u2 p q. (q.0 ∙ p.0, λ all tells. p.1 all (q.1 all tells))) before (subst (λ (u : Taken). KeepsOne u s s' b d) is line)
 
 pub keeps_out : (t : Taken) (s0 s s' : Session) (a b d : DeskState) → t ≡ taken.Last → KeepsOne taken.On s0 s a b → KeepsOne t s s' b d → KeepsSome None s0 s' a d
 keeps_out t s0 s s' a b d is before line =
-    both_then s0.cnf.lines s0.lines s.cnf.lines s.lines s'.cnf.lines s'.lines a b d (λ c p c' p'. Keeps taken.On s0.kept s0.cnf s.kept s.cnf c c') (λ c p c' p'. Keeps taken.Last s.kept s.cnf s'.kept s'.cnf c c') (λ c p c' p'. Tells s0.kept s0.cnf c s'.kept.clauses)
-    (λ t0 u0 t1 u1 t2 u2 p q. p.1 s'.kept.clauses q) before (subst (λ (u : Taken). KeepsOne u s s' b d) is line)
+    both_then s0.outputs.cnf.lines s0.derivation.lines s.outputs.cnf.lines s.derivation.lines s'.outputs.cnf.lines s'.derivation.lines a b d (λ c p c' p'. Keeps taken.On s0.outputs.kept s0.outputs.cnf s.outputs.kept s.outputs.cnf c c') (λ c p c' p'. Keeps taken.Last s.outputs.kept s.outputs.cnf s'.outputs.kept s'.outputs.cnf c c') (λ c p c' p'. Tells s0.outputs.kept s0.outputs.cnf c s'.outputs.kept.clauses)
+    (λ t0 u0 t1 u1 t2 u2 p q. p.1 s'.outputs.kept.clauses q) before (subst (λ (u : Taken). KeepsOne u s s' b d) is line)
 
 pub keeps_denied : (t : Taken) (s0 s s' : Session) (a b d : DeskState) (number : ℕ) (denied : Denied) → KeepsOne taken.On s0 s a b → KeepsOne t s s' b d → KeepsSome (Some (Rejected number denied)) s0 s' a d
 keeps_denied t s0 s s' a b d number denied before line =
-    both_then s0.cnf.lines s0.lines s.cnf.lines s.lines s'.cnf.lines s'.lines a b d (λ c p c' p'. Keeps taken.On s0.kept s0.cnf s.kept s.cnf c c') (λ c p c' p'. Keeps t s.kept s.cnf s'.kept s'.cnf c c') (λ c p c' p'. Unit {0}) (λ t0 u0 t1 u1 t2 u2 p q. tt) before line
+    both_then s0.outputs.cnf.lines s0.derivation.lines s.outputs.cnf.lines s.derivation.lines s'.outputs.cnf.lines s'.derivation.lines a b d (λ c p c' p'. Keeps taken.On s0.outputs.kept s0.outputs.cnf s.outputs.kept s.outputs.cnf c c') (λ c p c' p'. Keeps t s.outputs.kept s.outputs.cnf s'.outputs.kept s'.outputs.cnf c c') (λ c p c' p'. Unit {0}) (λ t0 u0 t1 u1 t2 u2 p q. tt) before line
 
 -- ---- from the first byte of both texts on
 

@@ -9,6 +9,7 @@ pub mod StepLimits
 pub mod WithinAnswers
 pub mod TurnLemmas
 pub mod NextLines
+pub mod Readers
 pub mod Takes
 pub mod Keeping
 pub mod BothStops

@@ -144,25 +144,25 @@ got_stops got s cnf cnf' db proof proof' a b c slot slot' apart line stops =
 
 -- ---- line after line, in a session
 
-pub runs_on : (t : Taken) (s0 s s' : Session) (db0 db db' : Database) (a b c : DeskState) → t ≡ taken.On → s.cnf.vars ≡ s0.cnf.vars → GivesLine taken.On db0 s0 db s a b → GivesLine t db s db' s' b c → GivesLine taken.On db0 s0 db' s' a c
+pub runs_on : (t : Taken) (s0 s s' : Session) (db0 db db' : Database) (a b c : DeskState) → t ≡ taken.On → s.outputs.cnf.vars ≡ s0.outputs.cnf.vars → GivesLine taken.On db0 s0 db s a b → GivesLine t db s db' s' b c → GivesLine taken.On db0 s0 db' s' a c
 runs_on t s0 s s' db0 db db' a b c is same_vars before line =
-    both_then s0.cnf.lines s0.lines s.cnf.lines s.lines s'.cnf.lines s'.lines a b c (LineGives taken.On s0.cnf db0 s0.lines s.cnf db s.lines) (LineGives taken.On s.cnf db s.lines s'.cnf db' s'.lines) (LineGives taken.On s0.cnf db0 s0.lines s'.cnf db' s'.lines)
+    both_then s0.outputs.cnf.lines s0.derivation.lines s.outputs.cnf.lines s.derivation.lines s'.outputs.cnf.lines s'.derivation.lines a b c (LineGives taken.On s0.outputs.cnf db0 s0.derivation.lines s.outputs.cnf db s.derivation.lines) (LineGives taken.On s.outputs.cnf db s.derivation.lines s'.outputs.cnf db' s'.derivation.lines) (LineGives taken.On s0.outputs.cnf db0 s0.derivation.lines s'.outputs.cnf db' s'.derivation.lines)
     (λ t0 u0 t1 u1 t2 u2 p q task answer vars w. p task answer vars (q task answer (vars ∙ sym same_vars) w)) before (subst (λ (u : Taken). GivesLine u db s db' s' b c) is line)
 
-pub runs_out : (t : Taken) (s0 s s' : Session) (db0 db db' : Database) (a b c : DeskState) → t ≡ taken.Last → s.cnf.vars ≡ s0.cnf.vars → GivesLine taken.On db0 s0 db s a b → GivesLine t db s db' s' b c → GivesSteps None db0 s0 s' a c
+pub runs_out : (t : Taken) (s0 s s' : Session) (db0 db db' : Database) (a b c : DeskState) → t ≡ taken.Last → s.outputs.cnf.vars ≡ s0.outputs.cnf.vars → GivesLine taken.On db0 s0 db s a b → GivesLine t db s db' s' b c → GivesSteps None db0 s0 s' a c
 runs_out t s0 s s' db0 db db' a b c is same_vars before line =
-    both_then s0.cnf.lines s0.lines s.cnf.lines s.lines s'.cnf.lines s'.lines a b c (LineGives taken.On s0.cnf db0 s0.lines s.cnf db s.lines) (LineGives taken.Last s.cnf db s.lines s'.cnf db' s'.lines) (λ c p c' p'. StepsGive None s0.cnf db0 s0.lines s'.lines c p p')
+    both_then s0.outputs.cnf.lines s0.derivation.lines s.outputs.cnf.lines s.derivation.lines s'.outputs.cnf.lines s'.derivation.lines a b c (LineGives taken.On s0.outputs.cnf db0 s0.derivation.lines s.outputs.cnf db s.derivation.lines) (LineGives taken.Last s.outputs.cnf db s.derivation.lines s'.outputs.cnf db' s'.derivation.lines) (λ c p c' p'. StepsGive None s0.outputs.cnf db0 s0.derivation.lines s'.derivation.lines c p p')
     (λ t0 u0 t1 u1 t2 u2 p q task answer vars w. p task answer vars (q task answer (vars ∙ sym same_vars) w)) before (subst (λ (u : Taken). GivesLine u db s db' s' b c) is line)
 
-pub runs_denied : (t : Taken) (d : Denied) (number : ℕ) (s0 s s' : Session) (db0 db db' : Database) (a b c : DeskState) → t ≡ taken.Denied d → number ≡ s'.lines.number → s.cnf.vars ≡ s0.cnf.vars → GivesLine taken.On db0 s0 db s a b → GivesLine t db s db' s' b c
+pub runs_denied : (t : Taken) (d : Denied) (number : ℕ) (s0 s s' : Session) (db0 db db' : Database) (a b c : DeskState) → t ≡ taken.Denied d → number ≡ s'.derivation.lines.number → s.outputs.cnf.vars ≡ s0.outputs.cnf.vars → GivesLine taken.On db0 s0 db s a b → GivesLine t db s db' s' b c
     → GivesSteps (Some (Rejected number d)) db0 s0 s' a c
 runs_denied t d number s0 s s' db0 db db' a b c is at same_vars before line =
-    both_then s0.cnf.lines s0.lines s.cnf.lines s.lines s'.cnf.lines s'.lines a b c (LineGives taken.On s0.cnf db0 s0.lines s.cnf db s.lines) (LineGives (taken.Denied d) s.cnf db s.lines s'.cnf db' s'.lines)
-    (λ c p c' p'. StepsGive (Some (Rejected number d)) s0.cnf db0 s0.lines s'.lines c p p')
-    (λ t0 u0 t1 u1 t2 u2 p q task vars. subst (λ (n : ℕ). Walks task (at_steps db0) (clauses_of s0.cnf t0) (rows_left s0.lines u0) (Ok (Rejected n d))) (sym at) (p task (Ok (Rejected s'.lines.number d)) vars (q task (vars ∙ sym same_vars))))
+    both_then s0.outputs.cnf.lines s0.derivation.lines s.outputs.cnf.lines s.derivation.lines s'.outputs.cnf.lines s'.derivation.lines a b c (LineGives taken.On s0.outputs.cnf db0 s0.derivation.lines s.outputs.cnf db s.derivation.lines) (LineGives (taken.Denied d) s.outputs.cnf db s.derivation.lines s'.outputs.cnf db' s'.derivation.lines)
+    (λ c p c' p'. StepsGive (Some (Rejected number d)) s0.outputs.cnf db0 s0.derivation.lines s'.derivation.lines c p p')
+    (λ t0 u0 t1 u1 t2 u2 p q task vars. subst (λ (n : ℕ). Walks task (at_steps db0) (clauses_of s0.outputs.cnf t0) (rows_left s0.derivation.lines u0) (Ok (Rejected n d))) (sym at) (p task (Ok (Rejected s'.derivation.lines.number d)) vars (q task (vars ∙ sym same_vars))))
     before (subst (λ (u : Taken). GivesLine u db s db' s' b c) is line)
 
-pub runs_stop : (f : CheckFault) (s0 s s' : Session) (db0 db : Database) (a b c : DeskState) → s.cnf.vars ≡ s0.cnf.vars → GivesLine taken.On db0 s0 db s a b → StopsAmong f db s s' b c → StopsAmong f db0 s0 s' a c
+pub runs_stop : (f : CheckFault) (s0 s s' : Session) (db0 db : Database) (a b c : DeskState) → s.outputs.cnf.vars ≡ s0.outputs.cnf.vars → GivesLine taken.On db0 s0 db s a b → StopsAmong f db s s' b c → StopsAmong f db0 s0 s' a c
 runs_stop f s0 s s' db0 db a b c same_vars before stops =
-    both_stops (TaskOver s.cnf) (TaskOver s0.cnf) f s0.cnf.lines s0.lines s.cnf.lines s.lines s'.cnf.lines s'.lines a b c (LineGives taken.On s0.cnf db0 s0.lines s.cnf db s.lines) (StepsCome s.cnf db s.lines) (StepsCome s0.cnf db0 s0.lines)
+    both_stops (TaskOver s.outputs.cnf) (TaskOver s0.outputs.cnf) f s0.outputs.cnf.lines s0.derivation.lines s.outputs.cnf.lines s.derivation.lines s'.outputs.cnf.lines s'.derivation.lines a b c (LineGives taken.On s0.outputs.cnf db0 s0.derivation.lines s.outputs.cnf db s.derivation.lines) (StepsCome s.outputs.cnf db s.derivation.lines) (StepsCome s0.outputs.cnf db0 s0.derivation.lines)
     (λ x. ((x.0, x.1 ∙ sym same_vars), λ t u t' u' answer p w. p x.0 answer x.1 w)) before stops

@@ -24,6 +24,7 @@ use Rattle.pb_dimacs.specs.Cursors.{rows_left}
 use Rattle.pb_dimacs.specs.Within.{IsStartWithin, CouldPass}
 use Rattle.pb_dimacs.proofs.FormLemmas.{start_rows}
 use Rattle.pb_steps.specs.Database.{loaded_database}
+use Rattle.pb_check.specs.declared.kept.CollectedClauses.{CollectedClauses}
 use Rattle.pb_check.specs.declared.session.Session.{Session}
 use Rattle.pb_check.specs.declared.verdict.CheckFault.{CheckFault}
 use Rattle.pb_base.specs.declared.expected.Expected.TheVariants.{VarCount}
@@ -118,13 +119,6 @@ WholeAnswer p cnf proof c d answer = WalksBy p (rows_left proof d) (start_of (ro
 pub record AreNew (x y : ℕ) (cnf : CnfReader) (proof : Reader) : Type 0 where
   pub cnf_new : cnf ≡ new_reader x
   pub proof_new : proof ≡ (new_reader y).lines
-
--- a new reader is one of its slot
-pub cnf_of_slot : (x : ℕ) (cnf : CnfReader) → cnf ≡ new_reader x → cnf ≡ new_reader cnf.lines.slot
-cnf_of_slot x cnf is = subst (λ (r : CnfReader). r ≡ new_reader r.lines.slot) (sym is) refl
-
-pub lines_of_slot : (y : ℕ) (proof : Reader) → proof ≡ (new_reader y).lines → proof ≡ (new_reader proof.slot).lines
-lines_of_slot y proof is = subst (λ (r : Reader). r ≡ (new_reader r.slot).lines) (sym is) refl
 
 pub apart_new : (x y : ℕ) (cnf : CnfReader) (proof : Reader) → AreNew x y cnf proof → x ≢ y → cnf.lines.slot ≢ proof.slot
 apart_new x y cnf proof new apart e = apart (sym (ap (λ (r : CnfReader). r.lines.slot) new.cnf_new) ∙ e ∙ ap (λ (r : Reader). r.slot) new.proof_new)
@@ -244,16 +238,19 @@ walk_unstarted fault p x y cnf cnf' proof a b new apart slot stops =
 
 -- ---- in a session
 
-pub are_new : (s : Session) → IsNew s → AreNew s.cnf.lines.slot s.lines.slot s.cnf s.lines
-are_new s new = record { cnf_new = new.cnf_new; proof_new = new.lines_new }
+pub are_new : (x y : ℕ) (k : CollectedClauses) (s : Session) → IsNew x y k s → AreNew x y s.outputs.cnf s.derivation.lines
+are_new x y k s new = record { cnf_new = new.cnf_new; proof_new = new.lines_new }
 
-pub whole_given : (p : Problem) (head : CnfHead) (s s' : Session) (cnf : CnfReader) (original : ℕ) (loaded : List Constraint) (a b d : DeskState) (answer : Answer) → IsNew s → s.cnf.lines.slot ≢ s.lines.slot → cnf.lines.slot ≡ s.cnf.lines.slot
-    → GivesHead head s.cnf cnf a b → IsLoaded p head cnf original loaded → ReadsBoth cnf.lines s.lines s'.cnf.lines s'.lines b d (λ t u t' u'. LinesAnswer cnf (loaded_database original head.vars loaded) (length loaded) s.lines t u answer)
-    → TakesBoth s.cnf.lines.slot s.lines.slot (λ t u. Walk p t u answer) a d
-whole_given p head s s' cnf original loaded a b d answer new apart slot given is reads =
-    walk_given p head s.cnf.lines.slot s.lines.slot s.cnf cnf s'.cnf s.lines s'.lines a b d answer (are_new s new) apart slot given (lines_given p head cnf s'.cnf s.lines s'.lines original loaded b d answer is reads)
+-- the p line was read, and then lines that give an answer, or stop
+pub whole_given : (p : Problem) (head : CnfHead) (x y : ℕ) (k : CollectedClauses) (s s' : Session) (cnf : CnfReader) (original : ℕ) (loaded : List Constraint) (a b d : DeskState) (answer : Answer) → IsNew x y k s → cnf.lines.slot ≡ s.outputs.cnf.lines.slot
+    → GivesHead head s.outputs.cnf cnf a b → IsLoaded p head cnf original loaded
+    → ReadsBoth cnf.lines s.derivation.lines s'.outputs.cnf.lines s'.derivation.lines b d (λ t u t' u'. LinesAnswer cnf (loaded_database original head.vars loaded) (length loaded) s.derivation.lines t u answer)
+    → TakesBoth x y (λ t u. Walk p t u answer) a d
+whole_given p head x y k s s' cnf original loaded a b d answer new slot given is reads =
+    walk_given p head x y s.outputs.cnf cnf s'.outputs.cnf s.derivation.lines s'.derivation.lines a b d answer (are_new x y k s new) s.apart slot given
+    (lines_given p head cnf s'.outputs.cnf s.derivation.lines s'.derivation.lines original loaded b d answer is reads)
 
-pub whole_stopped : (f : CheckFault) (p : Problem) (head : CnfHead) (s s' : Session) (cnf : CnfReader) (original : ℕ) (loaded : List Constraint) (a b d : DeskState) → IsNew s → s.cnf.lines.slot ≢ s.lines.slot → cnf.lines.slot ≡ s.cnf.lines.slot
-    → GivesHead head s.cnf cnf a b → IsLoaded p head cnf original loaded → StopsLines f (length loaded) cnf (loaded_database original head.vars loaded) s.lines s'.cnf s'.lines b d → StopsCheck p s.cnf.lines.slot s.lines.slot a d f
-whole_stopped f p head s s' cnf original loaded a b d new apart slot given is stops =
-    walk_stopped f p head s.cnf.lines.slot s.lines.slot s.cnf cnf s'.cnf s.lines s'.lines a b d (are_new s new) apart slot given (lines_stopped f p head cnf s'.cnf s.lines s'.lines original loaded b d is stops)
+pub whole_stopped : (f : CheckFault) (p : Problem) (head : CnfHead) (x y : ℕ) (k : CollectedClauses) (s : Session) (cnf cnf' : CnfReader) (proof' : Reader) (original : ℕ) (loaded : List Constraint) (a b d : DeskState) → IsNew x y k s → cnf.lines.slot ≡ s.outputs.cnf.lines.slot
+    → GivesHead head s.outputs.cnf cnf a b → IsLoaded p head cnf original loaded → StopsLines f (length loaded) cnf (loaded_database original head.vars loaded) s.derivation.lines cnf' proof' b d → StopsCheck p x y a d f
+whole_stopped f p head x y k s cnf cnf' proof' original loaded a b d new slot given is stops =
+    walk_stopped f p head x y s.outputs.cnf cnf cnf' s.derivation.lines proof' a b d (are_new x y k s new) s.apart slot given (lines_stopped f p head cnf cnf' s.derivation.lines proof' original loaded b d is stops)

@@ -2,4 +2,5 @@ pub mod Calls
 pub mod Judging
 pub mod Keeping
 pub mod Phases
+pub mod Readers
 pub mod Sessions

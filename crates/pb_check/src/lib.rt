@@ -2,12 +2,11 @@
 #![tactic(auto)]
 
 mod checking;
+mod derivation;
 mod fault;
 mod kept;
 mod laws;
-mod reading;
 mod session;
-mod stages;
 mod taking;
 mod verdict;
 
