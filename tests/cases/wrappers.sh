@@ -1,4 +1,5 @@
-# The header's constants and the Python module at their edges. (The crate's tests are in library/rust/tests, which packages.sh runs.)
+# The header's constants, and the Python module at its edges and interrupted. (The crate's tests are in library/rust/tests, which
+# packages.sh runs.)
 . "$top/tests/lib.sh"
 
 library=$top/library
@@ -23,6 +24,10 @@ try_header() {
 }
 
 export PBCNF_LIBRARY=$linked/libpbcnf.so.0 PYTHONPATH=$library/python PYTHONDONTWRITEBYTECODE=1
-if has python3; then run_tests "$own/edges.py"; else skip 'there is no python3'; fi
+if has python3; then
+    for tests in edges interrupts; do run_tests "$own/$tests.py"; done
+else
+    skip 'there is no python3'
+fi
 find_compiler
 if [ -n "$compiler" ]; then try_header; else skip 'there is no C compiler'; fi

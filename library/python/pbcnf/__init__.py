@@ -12,7 +12,8 @@ as numpy's have. `pbcnf.model` writes problems by names and operators, `pbcnf.py
 
 The library is libpbcnf.so.0. It is looked for in the environment's PBCNF_LIBRARY, then in the folder of this file, where an
 installed package has it, then where ./install put it, then where ./build put it or release/ has it, the newer of both, then where
-the system looks for libraries. Calls may be made by several threads at once.
+the system looks for libraries. Calls may be made by several threads at once. Ctrl-C in the main thread ends a large call at once for
+the program, and it then runs to its end in the background.
 """
 
 from __future__ import annotations
@@ -20,7 +21,7 @@ from __future__ import annotations
 from typing import TYPE_CHECKING, Dict, Iterable, List, Literal, Optional, Tuple, TypedDict, Union
 
 from pbcnf import _calling
-from pbcnf._arguments import Posed, bound_of, model_of, posed, posed_all, posed_one, text_of
+from pbcnf._arguments import model_of, posed, posed_all, posed_one, posed_text, posed_texts, text_of
 from pbcnf.errors import (Error, LimitPassed, NoLibrary, NoModel, NotASolution, NotRefuted, OutOfMemory, Refused, Rejected, Usage)
 from pbcnf.results import Clauses, Encoding, Solution
 
@@ -136,16 +137,7 @@ def softs(opb: Text, *, at_most: Optional[int] = None) -> Tuple[int, List[Tuple[
     >>> pbcnf.softs("min: +3 x1 -2 x2 ;")
     (-2, [(3, -1), (2, 2)])
     """
-    text = text_of(opb)
-    return _calling.put_softs("pbcnf_softs", Posed([text, len(text), bound_of(at_most)], len(text)), 64)
-
-
-def _judge(name: str, opb: Text, at_most: Optional[int], *texts: Text) -> None:
-    given: List[object] = []
-    for text in map(text_of, (opb, *texts)):
-        given += [text, len(text)]
-    given.insert(2, bound_of(at_most))
-    _calling.judge(name, given)
+    return _calling.put_softs("pbcnf_softs", posed_texts(opb, at_most), 64)
 
 
 def check(opb: Text, cnf: Text, proof: Text, *, at_most: Optional[int] = None) -> None:
@@ -157,7 +149,7 @@ def check(opb: Text, cnf: Text, proof: Text, *, at_most: Optional[int] = None) -
     Traceback (most recent call last):
     pbcnf.errors.Rejected: pbcnf: PROOF line 4: not implied by 2
     """
-    _judge("pbcnf_check", opb, at_most, cnf, proof)
+    _calling.judge("pbcnf_check", posed_texts(opb, at_most, text_of(cnf), text_of(proof)))
 
 
 def refute(opb: Text, cnf: Text, proof: Text, lrat: Text, *, at_most: Optional[int] = None) -> None:
@@ -167,7 +159,7 @@ def refute(opb: Text, cnf: Text, proof: Text, lrat: Text, *, at_most: Optional[i
     >>> opb = "+1 x1 >= 1 ;\\n+1 ~x1 >= 1 ;"
     >>> pbcnf.refute(opb, pbcnf.dimacs(opb), pbcnf.derive(opb), "3 0 1 2 0\\n")
     """
-    _judge("pbcnf_refute", opb, at_most, cnf, proof, lrat)
+    _calling.judge("pbcnf_refute", posed_texts(opb, at_most, text_of(cnf), text_of(proof), text_of(lrat)))
 
 
 def decode(opb: Text, model: Union[Text, Iterable[int]], *, at_most: Optional[int] = None) -> Solution:
@@ -179,8 +171,7 @@ def decode(opb: Text, model: Union[Text, Iterable[int]], *, at_most: Optional[in
     >>> pbcnf.decode("+1 rain +1 sun = 1 ;", [-1, 2]).values
     {'rain': False, 'sun': True}
     """
-    text, answer = text_of(opb), model_of(model)
-    said = _calling.put_words("pbcnf_decode", Posed([text, len(text), bound_of(at_most), answer, len(answer)], len(text)))
+    said = _calling.put_words("pbcnf_decode", posed_texts(opb, at_most, model_of(model)))
     objective, values = None, {}
     for line in said.splitlines():
         head, *words = line.split(" ")
@@ -197,8 +188,7 @@ def names(opb: Text) -> Dict[int, str]:
     >>> pbcnf.names("+1 rain +1 x1 >= 1 ;")
     {2: 'rain'}
     """
-    text = text_of(opb)
-    said = _calling.put_words("pbcnf_map", Posed([text, len(text)], len(text)))
+    said = _calling.put_words("pbcnf_map", posed_text(opb))
     pairs = (line.split(" ") for line in said.splitlines())
     return {int(number): name for number, name in pairs}
 

@@ -3,6 +3,7 @@
 from __future__ import annotations
 
 import ctypes
+import re
 import struct
 from array import array
 from collections.abc import Mapping as Mappings
@@ -118,11 +119,52 @@ class Posed(NamedTuple):
     """The bytes of the text, or the terms of the constraint: by these a room is guessed."""
     usage: Callable[[], Usage] = lambda: usage("the library takes none of these numbers")
     """Says what the library does not take, once it has refused the numbers."""
+    may_be_long: bool = False
+    """Whether the call may take longer than somebody waits who has pressed Ctrl-C."""
+
+
+# A call in a thread of its own takes some 50 microseconds more. Texts and sums up to these sizes mostly take less than a millisecond,
+# and with the hardest weights, and any budget, about a second.
+_SHORT_TEXT, _SHORT_STATEMENT = 20_000, 150
+_FEW_TERMS, _FEW_IN_ONE, _LITTLE_WORK = 10_000, 16, 100_000
+_SHORT_STATEMENTS = re.compile(rb"(?:[^;]{0,%d};)*" % _SHORT_STATEMENT)
+_ABSOLUTE: Callable[[int], int] = abs
+# A number before a literal.
+_COEFFICIENT = re.compile(rb"(?<![^\s+-])[0-9]+(?=\s+[~A-Za-z_])")
 
 
 def posed(opb: Any, at_most: Optional[int], chosen: Mapping[str, Any], table: bool = False) -> Posed:
     text, options, bound = text_of(opb), options_of(chosen, table), bound_of(at_most)
-    return Posed([text, len(text), options, bound], len(text), lambda: _usage_of(chosen))
+    return Posed([text, len(text), options, bound], len(text), lambda: _usage_of(chosen), _is_long_to_encode(text))
+
+
+def _is_long_to_encode(text: bytes) -> bool:
+    """Whether it is long, or has a sum of much work. Of the weights just their digits are counted, since there may be thousands."""
+    if len(text) <= _SHORT_STATEMENT or len(text) > _SHORT_TEXT:
+        return len(text) > _SHORT_TEXT
+    short = _SHORT_STATEMENTS.match(text)
+    if short and len(text) - short.end() <= _SHORT_STATEMENT:
+        return False
+    found = [_COEFFICIENT.findall(statement) for statement in text.split(b";") if len(statement) > _SHORT_STATEMENT]
+    digits = max((len(coefficient) for coefficients in found for coefficient in coefficients), default=0)
+    if not digits:
+        return False
+    weight: int = 5 * 10 ** min(digits - 1, 9)
+    return max(map(len, found)) * sum(map(len, found)) * weight > _LITTLE_WORK
+
+
+def posed_text(opb: Any) -> Posed:
+    """A problem alone."""
+    text = text_of(opb)
+    return Posed([text, len(text)], len(text), may_be_long=len(text) > _SHORT_TEXT)
+
+
+def posed_texts(opb: Any, at_most: Optional[int], *others: bytes) -> Posed:
+    """A problem and its bound, and what is said of it: a call takes time by the length of all."""
+    texts = (text_of(opb), *others)
+    given: List[object] = [part for text in texts for part in (text, len(text))]
+    given.insert(2, bound_of(at_most))
+    return Posed(given, len(texts[0]), may_be_long=sum(map(len, texts)) > _SHORT_TEXT)
 
 
 class _Block:
@@ -140,7 +182,16 @@ def posed_one(terms: Iterable[Tuple[int, int]], relation: str, right: int, first
         raise usage("a relation is one of >=, <= and =, and not %r" % (relation,))
     side = Side(RELATIONS[relation], _within(index(first)), *_words(index(right), "the right side"))
     given = [_Block(coefficients), len(coefficients), _Block(literals), len(literals), side, options_of(chosen)]
-    return Posed(given, len(pairs), lambda: _usage_of_one([index(literal) for _, literal in pairs], index(first), chosen))
+    is_long = _is_long_to_sum(coefficients, len(pairs), len(pairs))
+    return Posed(given, len(pairs), lambda: _usage_of_one([index(literal) for _, literal in pairs], index(first), chosen), is_long)
+
+
+def _is_long_to_sum(coefficients: array[int], terms: int, most: int) -> bool:
+    """Whether constraints of so many terms, of which one has `most`, may take long: a diagram has up to a node for each term and each
+    value of the sum. The coefficients are those of all, and large if they take two words each."""
+    if most <= _FEW_IN_ONE or terms > _FEW_TERMS:
+        return terms > _FEW_TERMS
+    return coefficients.typecode == "Q" or most * sum(map(_ABSOLUTE, coefficients)) > _LITTLE_WORK
 
 
 def posed_all(constraints: Iterable[Any], first: int, chosen: Mapping[str, Any]) -> Posed:
@@ -149,16 +200,21 @@ def posed_all(constraints: Iterable[Any], first: int, chosen: Mapping[str, Any])
     literals: List[int] = []
     sums: List[bytes] = []
     conditions: List[int] = []
+    most = 0
     for terms, relation, right, *condition in constraints:
         before = len(literals)
         for coefficient, literal in terms:
             coefficients.append(coefficient)
             literals.append(literal)
+        count = len(literals) - before
         conditions.append(_condition(*condition))
-        sums.append(_packed(len(sums) + 1, len(literals) - before, relation, right, conditions[-1]))
+        sums.append(_packed(len(sums) + 1, count, relation, right, conditions[-1]))
+        if count > most:
+            most = count
     words, numbers = _coefficients(coefficients), _literals(literals)
     given = [_Block(words), len(words), _Block(numbers), len(numbers), b"".join(sums), len(sums), _within(index(first)), options_of(chosen)]
-    return Posed(given, len(literals), lambda: _usage_of_all(sums, conditions, [index(literal) for literal in literals], index(first), chosen))
+    return Posed(given, len(literals), lambda: _usage_of_all(sums, conditions, [index(literal) for literal in literals], index(first), chosen),
+                 _is_long_to_sum(words, len(literals), most))
 
 
 def _condition(literal: int = 0) -> int:

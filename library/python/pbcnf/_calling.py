@@ -10,6 +10,7 @@ from typing import Callable, List, Tuple, TypeVar, Union
 
 from pbcnf._arguments import Posed
 from pbcnf._native import DONE, NO_ROOM, Costs, Refusal, Row, Size, library
+from pbcnf._waiting import status_of
 from pbcnf.errors import Error, Usage, error_of
 from pbcnf.results import Clauses, Encoding
 
@@ -36,7 +37,8 @@ def put(name: str, posed: Posed, told: Told, item: int, room: int, made: Callabl
         if len(filled) < item * room:
             # What Python's allocator gives is aligned for any type.
             filled = array("B", [0]) * (item * room)
-        status = getattr(library(), name)(*posed.given, filled.buffer_info()[0], len(filled) // item, told, refusal)
+        given = (*posed.given, filled.buffer_info()[0], len(filled) // item, told, refusal)
+        status = status_of(getattr(library(), name), given, filled, posed.may_be_long)
         if status == Usage.status:
             raise posed.usage()
         if status not in (DONE, NO_ROOM):
@@ -96,8 +98,8 @@ def _rows(put: memoryview) -> List[Tuple[int, int]]:
     return [((high << 64) + low, literal) for low, high, literal, _ in struct.iter_unpack("=Qqii", put)]
 
 
-def judge(name: str, given: List[object]) -> None:
+def judge(name: str, posed: Posed) -> None:
     """Makes a call that judges texts, and puts nothing."""
     refusal = Refusal()
-    if getattr(library(), name)(*given, refusal) != DONE:
+    if status_of(getattr(library(), name), (*posed.given, refusal), None, posed.may_be_long) != DONE:
         raise error(refusal)
