@@ -19,7 +19,7 @@ export PBCNF_LIBRARY=$linked/libpbcnf.so.0 PYTHONPATH=$library/python${PYTHONPAT
 
 try_python() {
     local tests
-    for tests in module values pysat_names modelling; do run_tests "$own/$tests.py"; done
+    for tests in module values tables pysat_names modelling; do run_tests "$own/$tests.py"; done
     expect 0 $python "$own/enumerators.py" "$library/pbcnf.h" "$library/rust/src/numbers.rs"
     # What the README prints of its program.
     mkdir blocks

@@ -258,7 +258,7 @@ class Threads(unittest.TestCase):
 
 
 def load_tests(loader, tests, pattern):
-    for module in (pbcnf, pbcnf.errors, pbcnf.results):
+    for module in (pbcnf, pbcnf.errors, pbcnf.results, pbcnf.tables):
         tests.addTests(doctest.DocTestSuite(module, extraglobs={"pbcnf": pbcnf}))
     return tests
 

@@ -8,7 +8,8 @@
 
 A problem is an OPB text: a `str`, or its bytes. Options are keywords, as those of the program; `Chosen` has them. What is refused is
 raised as an `Error`, with its place and the word that was expected there. A whole number may be of any type that has `__index__`,
-as numpy's have. `pbcnf.model` writes problems by names and operators, `pbcnf.pysat` has PySAT's encoders by their names.
+as numpy's have. A `Table` bounds a sum by assumptions. `pbcnf.model` writes problems by names and operators, `pbcnf.pysat` has
+PySAT's encoders by their names.
 
 The library is libpbcnf.so.0. It is looked for in the environment's PBCNF_LIBRARY, then in the folder of this file, where an
 installed package has it, then where ./install put it, then where ./build put it or release/ has it, the newer of both, then where
@@ -24,6 +25,7 @@ from pbcnf import _calling
 from pbcnf._arguments import model_of, posed, posed_all, posed_one, posed_text, posed_texts, text_of
 from pbcnf.errors import (Error, LimitPassed, NoLibrary, NoModel, NotASolution, NotRefuted, OutOfMemory, Refused, Rejected, Usage)
 from pbcnf.results import Clauses, Encoding, Solution
+from pbcnf.tables import Table
 
 if TYPE_CHECKING:
     import mmap
@@ -32,7 +34,7 @@ if TYPE_CHECKING:
 
 __all__ = [
     "Chosen", "Clauses", "Encoding", "Error", "LimitPassed", "NoLibrary", "NoModel", "NotASolution", "NotRefuted", "OutOfMemory",
-    "Refused", "Rejected", "Relation", "Solution", "Usage", "bounds", "check", "constraint", "constraints", "decode", "derive",
+    "Refused", "Rejected", "Relation", "Solution", "Table", "Usage", "bounds", "check", "constraint", "constraints", "decode", "derive",
     "derive_constraint", "derive_constraints", "dimacs", "encode", "names", "refute", "softs", "wcnf",
 ]
 

@@ -11,7 +11,7 @@ from operator import index
 from typing import Any, Callable, Dict, Iterable, List, Mapping, NamedTuple, Optional, Tuple
 
 from pbcnf._native import SUM, Bound, Options, Side
-from pbcnf.errors import Usage
+from pbcnf.errors import LimitPassed, Usage
 
 WORDS: Dict[str, Tuple[str, ...]] = {
     "amo": ("auto", "pairwise", "ladder", "product"),
@@ -21,6 +21,7 @@ WORDS: Dict[str, Tuple[str, ...]] = {
 }
 RELATIONS = {">=": 0, "<=": 1, "=": 2}
 _BUDGET, _MOST_BUDGET, _MOST_FIRST = 50_000, 10_000_000, 1 << 31
+_MOST_TERMS, _MOST_WEIGHT = 1 << 20, 1 << 100
 
 
 def usage(words: str) -> Usage:
@@ -192,6 +193,31 @@ def _is_long_to_sum(coefficients: array[int], terms: int, most: int) -> bool:
     if most <= _FEW_IN_ONE or terms > _FEW_TERMS:
         return terms > _FEW_TERMS
     return coefficients.typecode == "Q" or most * sum(map(_ABSOLUTE, coefficients)) > _LITTLE_WORK
+
+
+def sum_of(terms: Iterable[Tuple[int, int]], first: int, chosen: Mapping[str, Any]) -> Tuple[List[Tuple[int, int]], str]:
+    """The terms of a sum, once its literals are of variables below `first`, and a problem of these variables with the sum as its
+    objective alone."""
+    pairs = [(index(coefficient), index(literal)) for coefficient, literal in terms]
+    mistake = _mistaken(index(first), chosen)
+    if mistake is not None:
+        raise mistake
+    for number, (_, literal) in enumerate(pairs, 1):
+        if not 1 <= abs(literal) < first:
+            raise _usage_of_literal("literal of term %d" % number, literal, first)
+    # As the library, but without a place in a text that nobody has written.
+    if len(pairs) > _MOST_TERMS:
+        raise _passed("terms")
+    if sum(abs(coefficient) for coefficient, _ in pairs) >= _MOST_WEIGHT:
+        raise _passed("weight")
+    listed = "".join("%+d %sx%d " % (coefficient, "~" if literal < 0 else "", abs(literal)) for coefficient, literal in pairs)
+    return pairs, "* #variable= %d\nmin: %s;\n" % (first - 1, listed)
+
+
+def _passed(limit: str) -> LimitPassed:
+    error = LimitPassed("pbcnf: totals: limit " + limit)
+    error.limit = limit
+    return error
 
 
 def posed_all(constraints: Iterable[Any], first: int, chosen: Mapping[str, Any]) -> Posed:

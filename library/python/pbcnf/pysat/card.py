@@ -110,13 +110,10 @@ class ITotalizer:
         self.lits: List[int] = list(lits)
         if len({abs(literal) for literal in self.lits}) < len(self.lits):
             raise ValueError("each variable occurs once among the literals of a totalizer")
-        last = Place(top_id, None).first(self.lits) - 1
-        terms = " ".join("+1 %sx%d" % ("~" if literal < 0 else "", abs(literal)) for literal in self.lits)
-        text = "* #variable= %d\nmin: %s ;" % (last, terms)
-        encoding = pbcnf.encode(text, table=True, budget=10_000_000)
-        self._rows = [literal for _, literal in pbcnf.bounds(text, budget=10_000_000)]
-        self.cnf = CNF(encoding, encoding.variables)
-        self.top_id, self.nof_new = encoding.variables, len(encoding)
+        table = pbcnf.Table([(1, literal) for literal in self.lits], first=Place(top_id, None).first(self.lits), budget=10_000_000)
+        self._rows = [literal for _, literal in table.rows]
+        self.cnf = CNF(table, table.variables)
+        self.top_id, self.nof_new = table.variables, len(table)
         self.ubound, self.rhs = ubound, self._rows[:ubound + 1]
 
     def increase(self, ubound: int = 1, top_id: Optional[int] = None) -> None:
