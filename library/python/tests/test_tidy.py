@@ -6,10 +6,12 @@ of the rewritten text, and the clauses of `encode` go to CaDiCaL where that is o
 
 import bz2
 import contextlib
+import functools
 import gzip
 import io
 import itertools
 import lzma
+import math
 import os
 import random
 import shutil
@@ -222,6 +224,59 @@ def _spelled(draw, terms, relation, right, names):
     last = right + constant
     other.append("%s%d" % ("-" if last < 0 else "+" if other else "", abs(last)))
     return " ".join(left) + " " + draw.choice(spelled) + draw.choice(["", " "]) + " ".join(other) + draw.choice([" ;", ";\n", "\n"])
+
+
+class BesideClasp(unittest.TestCase):
+    """Texts in the competitions' older spelling, which clasp reads and the program does not: a `*` between factors, no sign, no blanks.
+    Rewritten they have the solutions and the optimum that clasp finds in the text as it was."""
+
+    def spelled(self, draw, terms):
+        parts = []
+        for place, (coefficient, literal) in enumerate(terms):
+            # A name may have a - in it, so one before a number has a blank before it.
+            sign = " -" if coefficient < 0 else draw.choice(["+", "+", ""] if place == 0 else ["+"])
+            parts.append("%s%d%s%s%s" % (sign, abs(coefficient), draw.choice(["*", "*", " * ", " "]), literal, draw.choice(["", " "])))
+        return "".join(parts)
+
+    def text(self, draw):
+        """Some statements over four variables, and mostly an objective."""
+        def terms():
+            return [(draw.choice([-3, -2, -1, 1, 2, 3, 5]), "x%d" % var) for var in draw.sample(range(1, 5), draw.randint(1, 4))]
+
+        count = draw.randint(1, 4)
+        lines = ["* #variable= 4 #constraint= %d" % count]
+        if draw.random() < 0.8:
+            lines.append("min:%s%s;" % (draw.choice(["", " "]), self.spelled(draw, terms())))
+        for _ in range(count):
+            left, relation, right = terms(), draw.choice([">=", ">=", "="]), draw.randint(-3, 4)
+            if relation == "=":
+                # clasp 3.3.5 takes 3 x1 = 2 for something that can hold.
+                right *= functools.reduce(math.gcd, (coefficient for coefficient, _ in left))
+            lines.append("%s%s%s%d%s;" % (self.spelled(draw, left), relation, draw.choice(["", " "]), right, draw.choice(["", " "])))
+        return "\n".join(lines) + "\n"
+
+    def answers(self, text, *words):
+        """What clasp says of a text: its lines with this first letter."""
+        found = subprocess.run(["clasp", "--outf=1", *words], input=text.encode(), stdout=subprocess.PIPE, stderr=subprocess.PIPE, check=False)
+        self.assertIn(found.returncode, (10, 20, 30), (text, found.stderr))
+        lines = [line.split() for line in found.stdout.decode().splitlines()]
+        return {letter: [line[1:] for line in lines if line[:1] == [letter]] for letter in "ov"}
+
+    def test_solutions_and_optima(self):
+        if not has_library() or not shutil.which("clasp"):
+            self.skipTest("there is no library, or no clasp")
+        draw, names, changed = random.Random(5), ["x1", "x2", "x3", "x4"], 0
+        for _ in range(80):
+            text = self.text(draw)
+            rewritten, changes = mend(text.encode())
+            changed += bool(changes)
+            with self.subTest(text=text):
+                found = {values: seen(rewritten + b"+1 x1 +1 x2 +1 x3 +1 x4 >= 0 ;\n", names, values) for values in assignments(4)}
+                all_found = {tuple(int(not word.startswith("-")) for word in line) for line in self.answers(text, "-n0", "-q0", "--opt-mode=ignore")["v"]}
+                self.assertEqual({values for values, value in found.items() if value is not None}, all_found)
+                if "min:" in text and all_found:
+                    self.assertEqual(self.answers(text)["o"][-1], [str(min(value for value in found.values() if value is not None))])
+        self.assertGreaterEqual(changed, 60)
 
 
 class Refusals(unittest.TestCase):
