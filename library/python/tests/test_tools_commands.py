@@ -250,14 +250,25 @@ class Minimizing(Commands):
         status, said, told = self.run_tool("minimize", "-q", self.put("stars.opb", STARS), "--solver", "other -q")
         self.assertEqual((status, self.values_of(said)[-1], said[-2], told), (0, 3, "s OPTIMUM FOUND", ""))
         self.assertEqual(self.run_tool("minimize", "-q", self.put("none.opb", NONE), "--solver", "other -q"), (20, ["s UNSATISFIABLE"], ""))
-        # And where there is none, nothing is.
+        # Where there is none, the search over the constraints has it refuted.
         os.unlink(self.path("bin/cadical"))
         self.environment["PATH"] = self.path("bin")
         status, said, told = self.run_tool("minimize", self.path("stars.opb"), "--solver", "other -q")
-        self.assertEqual((status, self.values_of(said)[-1], said[-2]), (75, 3, "s SATISFIABLE"))
+        self.assertEqual((status, self.values_of(said)[-1], said[-2]), (0, 3, "s OPTIMUM FOUND"))
         self.assertIn("pbcnf-minimize: other gives no reasons", told)
+        # And where it takes no part, as of a text so long, and of the question whether there is a solution at all, nothing is.
+        long = self.put("long.opb", STARS + "*" * 2000000)
+        status, said, _ = self.run_tool("minimize", long, "--solver", "other -q")
+        self.assertEqual((status, self.values_of(said)[-1], said[-2]), (75, 3, "s SATISFIABLE"))
         status, said, _ = self.run_tool("minimize", self.path("none.opb"), "--solver", "other -q")
         self.assertEqual((status, said), (75, ["s UNKNOWN"]))
+
+    def test_what_solvers_say_beside(self):
+        self.make_stub("clasp", "echo terminate called >&2")
+        self.make_script("minisat", "echo WARNING >&2", "printf 'SAT\\n1 2 -3 -4 0\\n' >\"$2\"")
+        for name in ("clasp", "minisat"):
+            status, said, told = self.run_tool("solve", self.put("stars.opb", STARS), "--solver", name)
+            self.assertEqual((status, said[-2:-1], told), (0, ["s SATISFIABLE"], ""), name)
 
     def test_optimizer(self):
         """One that finds the best solution, one that says too early that it is the best, ones that lie, fail and never end."""

@@ -28,9 +28,9 @@ _STATUSES = """exit status:
   65  there is no objective: a solution was printed
   69  there is no solver, or no pbcnf
   73  no temporary files could be made
-  75  a signal came, the time was over, or nothing can be refuted, since there
-      is no CaDiCaL or as --unproved asks: the best solution so far was
-      printed after s SATISFIABLE, or s UNKNOWN
+  75  a signal came, the time was over, or it was not refuted that any is
+      better, where there is no CaDiCaL or as --unproved asks: the best
+      solution so far was printed after s SATISFIABLE, or s UNKNOWN
   else that of encode, decode, refute or optimum; the best solution so far was printed too
 """
 
@@ -57,7 +57,7 @@ def _run(given: argparse.Namespace) -> int:
     team = solvers.find_team(given.solver, os.environ, watch, not given.unproved)
     problem = options.problem_of(given, _NAME)
     if team.prover is None and not (given.unproved or given.quiet):
-        complain(_NAME, "%s gives no reasons, so nothing will be refuted; CaDiCaL does" % team.solver.name)
+        complain(_NAME, "%s gives no reasons, so only what a search in Python refutes soon will be; CaDiCaL does" % team.solver.name)
     with workspace_of(watch) as workspace:
         proved = program.Program(path, watch, workspace, problem, given.opb)
         oracle = Oracle(proved, options.encodings(given, proved), team, watch, workspace, progress)

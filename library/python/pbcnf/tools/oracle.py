@@ -31,6 +31,8 @@ _SUMS = 20
 # A CNF of no more clauses is encoded at once, and so many seconds a solver has for it alone.
 _FEW = 20000
 _HEAD_START = 0.1
+# So many seconds the search over the constraints has for a refutation alone, or as many as were needed before it.
+_PATIENCE = 20
 # The statuses of `decode` where the fault is in the model: its grammar, its values, or that there is none.
 _OF_MODEL = (1, 8, 9)
 
@@ -136,12 +138,12 @@ class Oracle:
         write = self._workspace.write
         return Refutation(write("cnf.sum", b"p cnf %d 1\n0\n" % variables), write("proof.sum", text.encode("ascii")), write("lrat.sum", b""))
 
-    def _learner(self, bound: Optional[int]) -> List[Attempt]:
-        """Has the search over the constraints look for a refutation, if it can."""
+    def _learner(self, bound: Optional[int], seconds: Optional[float] = None) -> List[Attempt]:
+        """Has the search over the constraints look for a refutation, if it can, for so many seconds."""
         if bound is None or not self._learns or not can_learn(self._program.text):
             return []
         learner, files = Learner(self._watch), self._files(self._workspace.path("cnf.learner"), "learner")
-        return [Attempt(learner, files, learner.start(self._program.problem, bound, files))]
+        return [Attempt(learner, files, learner.start(self._program.problem, bound, files, seconds))]
 
     def _rival(self, cnf: str) -> List[Attempt]:
         """Has the rival look for a refutation, if there is one."""
@@ -217,7 +219,7 @@ class Oracle:
         if self._summed is not None and self._summed[0] == bound:
             return self._summed[1]
         if prover is None:
-            raise Stop(Status.UNPROVED, "%s finds nothing better, and gives no reasons that would refute it" % solver.name)
+            return self._learn_alone(bound)
         if self._refused is None or self._refused.bound != bound or solver is not prover:
             self.wait([self._pose(prover, bound, None)])
         refused = self._refused
@@ -233,6 +235,16 @@ class Oracle:
         proof = self._workspace.path("proof")
         self._program.encode(refused.options, refused.cnf, proof)
         return Refutation(refused.cnf, proof, lrat)
+
+    def _learn_alone(self, bound: Optional[int]) -> Refutation:
+        """That of the search over the constraints, where no solver gives reasons and it finds one in time."""
+        for attempt in self._learner(bound, max(_PATIENCE, self._watch.seconds)) if self._team.is_proved else []:
+            self._told.refutes(False)
+            self._watch.wait([attempt.run.running])
+            if attempt.run.verdict() is Verdict.NO_MODEL:
+                self._learned = attempt.files.reasons
+                return Refutation(attempt.files.cnf, attempt.files.reasons, self._workspace.write("lrat", b""))
+        raise Stop(Status.UNPROVED, "%s finds nothing better, and gives no reasons that would refute it" % self._team.solver.name)
 
     def _end(self, question: Question, heard: Running) -> Optional[Answer]:
         """The answer that one of the solvers has given, or nothing where it is one beside the first that has failed."""

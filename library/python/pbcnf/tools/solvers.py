@@ -100,11 +100,11 @@ class Solver:
         if is_minisat:
             # It writes its values to a second file, in words of its own.
             command.append(files.model + _MINISAT_FILE)
-        told = None
-        if files.reasons and self.reasons is Reasons.FRAT:
-            # What it prints as it is ended is of no use.
-            told = subprocess.DEVNULL
+        is_rival = bool(files.reasons) and self.reasons is Reasons.FRAT
+        if is_rival:
             command = within(_ROOM, command)
+        # What these say there, as they are ended or of a variable that occurs nowhere, is of no use.
+        told = subprocess.DEVNULL if is_rival or self._kind in ("clasp", "minisat") else None
         with open(files.model, "wb") as said:
             try:
                 running = self._watch.start(command, subprocess.DEVNULL if is_minisat else said.fileno(), told, seconds)
@@ -152,11 +152,11 @@ class Learner:
     def __init__(self, watch: Watch) -> None:
         self._watch = watch
 
-    def start(self, problem: str, bound: int, files: Files) -> Run:
-        """Starts it over a problem with a bound on its objective."""
+    def start(self, problem: str, bound: int, files: Files, seconds: Optional[float] = None) -> Run:
+        """Starts it over a problem with a bound on its objective, for so many seconds."""
         with open(files.model, "wb") as said:
             command = within(_ROOM, learn(problem, str(bound), files.cnf, files.reasons))
-            return Run(self, self._watch.start(command, stdout=said.fileno(), stderr=subprocess.DEVNULL), files.model)
+            return Run(self, self._watch.start(command, said.fileno(), subprocess.DEVNULL, seconds), files.model)
 
 
 class Attempt(NamedTuple):
@@ -168,11 +168,12 @@ class Attempt(NamedTuple):
 
 
 class Team:
-    """Who is run: the solver, and who says why there is no model, the solver itself or another, if any does."""
+    """Who is run: the solver, and who says why there is no model, the solver itself or another, if any does and that is asked for."""
 
-    def __init__(self, solver: Solver, prover: Optional[Solver], watch: Watch) -> None:
+    def __init__(self, solver: Solver, prover: Optional[Solver], watch: Watch, is_proved: bool = True) -> None:
         self.solver = solver
         self.prover = prover
+        self.is_proved = is_proved
         self._watch = watch
 
     @functools.cached_property
@@ -199,7 +200,7 @@ def find_team(named: Optional[str], environment: Mapping[str, str], watch: Watch
     solver = find(named, environment, watch)
     if not is_proved:
         solver.reasons = None
-    return Team(solver, (solver if solver.reasons else find_prover(named, environment, watch)) if is_proved else None, watch)
+    return Team(solver, (solver if solver.reasons else find_prover(named, environment, watch)) if is_proved else None, watch, is_proved)
 
 
 def find_prover(named: Optional[str], environment: Mapping[str, str], watch: Watch) -> Optional[Solver]:
