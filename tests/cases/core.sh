@@ -34,6 +34,25 @@ expect 0 "$core" --help
 expect 4 "$core" nowhere.opb
 expect 5 bash -c '"$0" "$1" >&-' "$core" "$examples/pigeons.opb"
 expect 69 "$core" "$examples/pigeons.opb" --solver no-such-solver
+tells 'pbcnf-core: no-such-solver is not on the path, or is none of CaDiCaL and CryptoMiniSat, which give reasons'
+if has minisat; then
+    expect 69 "$core" "$examples/pigeons.opb" --solver minisat
+else
+    skip 'there is no minisat'
+fi
+if has cryptominisat5; then
+    expect 20 "$core" "$examples/pigeons.opb" --solver cryptominisat5
+    tail -n 1 "$said" >ends
+    holds ends refuted
+else
+    skip 'there is no cryptominisat5'
+fi
+# Neither is on this path.
+mkdir tools
+for tool in sh readlink; do ln -s "$(command -v $tool)" tools; done
+ln -s "$(python3 -c 'import sys; print(sys.executable)')" tools/python3
+expect 69 env PATH="$PWD/tools" "$core" "$examples/pigeons.opb"
+tells 'pbcnf-core: neither cadical nor cryptominisat5 is on the path, which give reasons'
 
 # A CaDiCaL that writes LRAT itself, as from 1.7 on: made of the one that is here, and of hints.
 mkdir newer

@@ -9,7 +9,6 @@ from __future__ import annotations
 
 import argparse
 import os
-import shutil
 import sys
 from typing import List, Mapping, Optional
 
@@ -34,7 +33,7 @@ _STATUSES = """exit status:
   4   the file could not be read
   5   nothing can be printed, or kept
   9   CaDiCaL gave no answer
-  69  there is no CaDiCaL, or no pbcnf
+  69  there is neither CaDiCaL nor CryptoMiniSat, or no pbcnf
   73  no temporary files could be made
   129, 130, 143 at SIGHUP, SIGINT, SIGTERM; else that of encode, decode or refute
 """
@@ -170,10 +169,11 @@ class _Core:
 
 
 def _find_solver(named: Optional[str], environment: Mapping[str, str], watch: Watch) -> solvers.Solver:
-    """CaDiCaL, by this name or path, or that of SOLVER where it is one, or from the path."""
-    solver = solvers.Solver([named], watch) if named and shutil.which(named) else None if named else solvers.find_prover(None, environment, watch)
-    if solver is None or solver.reasons is None:
-        raise Stop(Status.MISSING, "%s is not on the path, or is no CaDiCaL, which gives reasons" % (named or solvers.PROVER))
+    """CaDiCaL or CryptoMiniSat, by this name or path, or that of SOLVER where it is CaDiCaL, or from the path."""
+    solver = solvers.prover_named(named, watch) if named else solvers.find_prover(None, environment, watch)
+    if solver is None:
+        lacking = "%s is not on the path, or is none of CaDiCaL and CryptoMiniSat" % named if named else "neither cadical nor cryptominisat5 is on the path"
+        raise Stop(Status.MISSING, lacking + ", which give reasons")
     return solver
 
 

@@ -212,8 +212,14 @@ def find_prover(named: Optional[str], environment: Mapping[str, str], watch: Wat
     return _find_rival(watch)
 
 
-def _find_rival(watch: Watch) -> Optional[Solver]:
-    return Solver([RIVAL], watch, Reasons.FRAT) if shutil.which(RIVAL) and b"[frat-trim-file]" in _help_of(RIVAL) else None
+def prover_named(named: str, watch: Watch) -> Optional[Solver]:
+    """The solver of this name or path, if it is there and gives reasons."""
+    solver = _find_rival(watch, named) if _kind([named]) == RIVAL else Solver([named], watch) if shutil.which(named) else None
+    return solver if solver is not None and solver.reasons is not None else None
+
+
+def _find_rival(watch: Watch, command: str = RIVAL) -> Optional[Solver]:
+    return Solver([command], watch, Reasons.FRAT) if shutil.which(command) and b"[frat-trim-file]" in _help_of(command) else None
 
 
 def _kind(command: List[str]) -> str:
